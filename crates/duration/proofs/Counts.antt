@@ -1,0 +1,35 @@
+-- Counts of a unit: whole seconds up to a limit, and the door by the unit's number. Assumes nothing.
+use mathlib.Core.Path.{_≡_}
+use Prim.Native.Nat.{ℕ, _+_, _*_, _^_, _≤_, _<_}
+use native.Mathlib.Nat.{mul-le-mul-right, lt-of-le-of-lt, pos-of-ne-zero}
+use native.Mathlib.Omega.{arith}
+use lib.ListN.{getD}
+use borrow.Author.Tests.{le-leb, lt-leb}
+use Rattle.refusal.specs.declared.Refusal.the-variants.{BadUnit}
+use Rattle.duration.specs.declared.Answer.{Answer}
+use Rattle.duration.specs.declared.Answer.the-variants.{Refused}
+use Rattle.duration.specs.Meaning.{most, exact}
+use Rattle.duration.specs.Units.{units, fromUnit}
+
+-- a count up to the limit fits a word of seconds, and one above it is too many
+pub count-fits : {count limit : ℕ} (scale : ℕ) → count ≤ limit → limit * scale < 2 ^ 64 → count * scale < 2 ^ 64
+count-fits scale h l = lt-of-le-of-lt (mul-le-mul-right scale h) l
+
+pub count-over : {count limit : ℕ} (scale : ℕ) → limit < count → 2 ^ 64 ≤ (limit + 1) * scale → most < count * (scale * 10 ^ 9)
+count-over {count} {limit} scale h l = let t : (limit + 1) * scale ≤ count * scale = mul-le-mul-right scale (omega arith) in omega arith
+
+-- the two answers of `fromUnit`
+pub unit-is : (count : ℕ) {unit : ℕ} (k : ℕ) {a : Answer} → unit ≡ k → k ≤ 7 → a ≡ exact (count * getD units k 0) → a ≡ fromUnit count unit
+unfolding fromUnit
+unit-is count k e h f = rw (e, le-leb k 7 h) f
+
+pub unit-bad : (count : ℕ) {unit : ℕ} → 7 < unit → Refused BadUnit ≡ fromUnit count unit
+unfolding fromUnit
+unit-bad count {unit} h = rw (lt-leb unit 7 h)
+
+past : {u : ℕ} (k : ℕ) → k ≤ u → (u ≡ k → ⊥) → k + 1 ≤ u
+past k h n = omega arith
+
+-- a unit that is none of the eight is above them
+pub above-seven : {u : ℕ} → (u ≡ 0 → ⊥) → (u ≡ 1 → ⊥) → (u ≡ 2 → ⊥) → (u ≡ 3 → ⊥) → (u ≡ 4 → ⊥) → (u ≡ 5 → ⊥) → (u ≡ 6 → ⊥) → (u ≡ 7 → ⊥) → 7 < u
+above-seven {u} a b c d e f g h = past 7 (past 6 (past 5 (past 4 (past 3 (past 2 (past 1 (pos-of-ne-zero a) b) c) d) e) f) g) h

@@ -1,0 +1,2 @@
+-- Laws that several crates cite.
+pub mod Bytes

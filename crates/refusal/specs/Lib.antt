@@ -1,0 +1,2 @@
+-- What the contract of `refusal` cites.
+pub mod Numbers

@@ -1,0 +1,137 @@
+/*
+ * saltribbon.h: durations of whole seconds and nanoseconds, for C99 and C++.
+ *
+ * A duration is a pair: secs, any uint64_t, and nanos, 0 to 999999999. It goes
+ * in as two numbers and means secs * 10^9 + nanos nanoseconds.
+ *
+ * Result.  Every function returns 0, or the number of the refusal.
+ *
+ * Answer.  `out` points to `len` bytes that the caller lends. The answer is
+ * SALT_ANSWER_BYTES bytes at the front of `out`, little-endian on every machine.
+ * The bytes after them stay as they were.
+ *
+ *     duration               seconds in 8 bytes, nanoseconds in 4, 4 zeros
+ *     wide count             low word in 8 bytes, high word in 8
+ *     whole seconds          8 bytes, 8 zeros
+ *     part below a second    4 bytes, 12 zeros
+ *     zero or not            1 or 0 in the first byte, 15 zeros
+ *     order                  0 less, 1 equal, 2 greater in the first byte, 15 zeros
+ *
+ * Refusal.  A refused call changes nothing: no byte of `out` is written.
+ *
+ * Input.  Any numbers and any length are answered. No call traps, allocates or
+ * keeps a pointer. A buffer that is too short is refused.
+ *
+ * Where several refusals apply, the first of this order is returned:
+ * SALT_BAD_DURATION, SALT_BAD_UNIT, SALT_BAD_OPTIONS, SALT_BAD_RANGE,
+ * SALT_BAD_ROW, then the numbers 1 to 5, and SALT_NO_ROOM last.
+ */
+#ifndef SALTRIBBON_H
+#define SALTRIBBON_H
+
+#include <stddef.h>
+#include <stdint.h>
+
+#ifdef __cplusplus
+extern "C" {
+#endif
+
+/* The bytes that an answer takes; with a shorter `out` a call is SALT_NO_ROOM. */
+#define SALT_ANSWER_BYTES 16
+
+/* The refusals. */
+enum salt_refusal {
+    SALT_NEGATIVE = 1,        /* a float to be converted is below zero */
+    SALT_OVERFLOW_OR_NAN = 2, /* a float to be converted is NaN, or 2^64 or more */
+    SALT_OVERFLOW = 3,        /* the exact result is above the largest duration */
+    SALT_UNDERFLOW = 4,       /* a subtraction goes below zero */
+    SALT_ZERO_DIVISOR = 5,    /* a divisor is zero */
+    SALT_BAD_ROW = 6,         /* a row of a list has nanos of 10^9 or more */
+    SALT_BAD_RANGE = 7,       /* a range of rows does not fit its list */
+    SALT_BAD_OPTIONS = 8,     /* a printing option is not allowed */
+    SALT_NO_ROOM = 9,         /* len is less than the bytes needed */
+    SALT_BAD_DURATION = 10,   /* a duration handed in has nanos of 10^9 or more */
+    SALT_BAD_UNIT = 11        /* a unit number is above 7 */
+};
+
+/* The units of salt_from_unit. */
+enum salt_unit {
+    SALT_UNIT_NANOSECONDS = 0,
+    SALT_UNIT_MICROSECONDS = 1,
+    SALT_UNIT_MILLISECONDS = 2,
+    SALT_UNIT_SECONDS = 3,
+    SALT_UNIT_MINUTES = 4,
+    SALT_UNIT_HOURS = 5,
+    SALT_UNIT_DAYS = 6,
+    SALT_UNIT_WEEKS = 7
+};
+
+/* ---- Constructors: the answer is a duration. ---- */
+
+/* secs seconds and nanos nanoseconds; nanos of 10^9 and more are carried into the seconds. */
+uint32_t salt_new(uint64_t secs, uint32_t nanos, uint8_t *out, size_t len);
+
+/* count times the unit of that number (enum salt_unit). */
+uint32_t salt_from_unit(uint64_t count, uint32_t unit, uint8_t *out, size_t len);
+
+/* high * 2^64 + low nanoseconds. */
+uint32_t salt_from_nanos_u128(uint64_t low, uint64_t high, uint8_t *out, size_t len);
+
+/* ---- Constants: the answer is a duration. ---- */
+
+/* One second. */
+uint32_t salt_second(uint8_t *out, size_t len);
+
+/* One millisecond. */
+uint32_t salt_millisecond(uint8_t *out, size_t len);
+
+/* One microsecond. */
+uint32_t salt_microsecond(uint8_t *out, size_t len);
+
+/* One nanosecond. */
+uint32_t salt_nanosecond(uint8_t *out, size_t len);
+
+/* The shortest duration: 0 s. */
+uint32_t salt_zero(uint8_t *out, size_t len);
+
+/* The longest duration: 18446744073709551615 s and 999999999 ns. */
+uint32_t salt_max(uint8_t *out, size_t len);
+
+/* ---- Whole seconds, and the part below a second. ---- */
+
+/* The whole seconds (8 bytes). */
+uint32_t salt_as_secs(uint64_t secs, uint32_t nanos, uint8_t *out, size_t len);
+
+/* The part below a second in milliseconds, floored: 0 to 999 (4 bytes). */
+uint32_t salt_subsec_millis(uint64_t secs, uint32_t nanos, uint8_t *out, size_t len);
+
+/* The part below a second in microseconds, floored: 0 to 999999 (4 bytes). */
+uint32_t salt_subsec_micros(uint64_t secs, uint32_t nanos, uint8_t *out, size_t len);
+
+/* The part below a second in nanoseconds: 0 to 999999999 (4 bytes). */
+uint32_t salt_subsec_nanos(uint64_t secs, uint32_t nanos, uint8_t *out, size_t len);
+
+/* ---- The whole duration in one unit: the answer is a wide count. ---- */
+
+/* The duration in milliseconds, floored. */
+uint32_t salt_as_millis(uint64_t secs, uint32_t nanos, uint8_t *out, size_t len);
+
+/* The duration in microseconds, floored. */
+uint32_t salt_as_micros(uint64_t secs, uint32_t nanos, uint8_t *out, size_t len);
+
+/* The duration in nanoseconds. */
+uint32_t salt_as_nanos(uint64_t secs, uint32_t nanos, uint8_t *out, size_t len);
+
+/* ---- Zero and order. ---- */
+
+/* 1 where the duration is zero, 0 otherwise (first byte). */
+uint32_t salt_is_zero(uint64_t secs, uint32_t nanos, uint8_t *out, size_t len);
+
+/* The first duration against the second: 0 less, 1 equal, 2 greater (first byte). */
+uint32_t salt_cmp(uint64_t secs, uint32_t nanos, uint64_t secs2, uint32_t nanos2, uint8_t *out, size_t len);
+
+#ifdef __cplusplus
+}
+#endif
+
+#endif
