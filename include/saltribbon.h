@@ -39,6 +39,17 @@ extern "C" {
 /* The bytes that an answer takes; with a shorter `out` a call is SALT_NO_ROOM. */
 #define SALT_ANSWER_BYTES 16
 
+/* The number in the first eight bytes of an answer, and in four: salt_read_u32(out + 8) reads the nanoseconds. */
+static inline uint32_t salt_read_u32(const uint8_t *at)
+{
+    return (uint32_t)at[0] | (uint32_t)at[1] << 8 | (uint32_t)at[2] << 16 | (uint32_t)at[3] << 24;
+}
+
+static inline uint64_t salt_read_u64(const uint8_t *at)
+{
+    return (uint64_t)salt_read_u32(at) | (uint64_t)salt_read_u32(at + 4) << 32;
+}
+
 /* The refusals. */
 enum salt_refusal {
     SALT_NEGATIVE = 1,        /* a float to be converted is below zero */

@@ -1,0 +1,36 @@
+// The names of the C functions, for the report.
+use libc::STDOUT_FILENO;
+
+fn name(f: u64) -> bool {
+    match f {
+        1 => io::write_all(STDOUT_FILENO, b"salt_new "),
+        2 => io::write_all(STDOUT_FILENO, b"salt_from_unit "),
+        3 => io::write_all(STDOUT_FILENO, b"salt_from_nanos_u128 "),
+        4 => io::write_all(STDOUT_FILENO, b"salt_second "),
+        5 => io::write_all(STDOUT_FILENO, b"salt_millisecond "),
+        6 => io::write_all(STDOUT_FILENO, b"salt_microsecond "),
+        7 => io::write_all(STDOUT_FILENO, b"salt_nanosecond "),
+        8 => io::write_all(STDOUT_FILENO, b"salt_zero "),
+        9 => io::write_all(STDOUT_FILENO, b"salt_max "),
+        10 => io::write_all(STDOUT_FILENO, b"salt_as_secs "),
+        11 => io::write_all(STDOUT_FILENO, b"salt_subsec_millis "),
+        12 => io::write_all(STDOUT_FILENO, b"salt_subsec_micros "),
+        13 => io::write_all(STDOUT_FILENO, b"salt_subsec_nanos "),
+        14 => io::write_all(STDOUT_FILENO, b"salt_as_millis "),
+        15 => io::write_all(STDOUT_FILENO, b"salt_as_micros "),
+        16 => io::write_all(STDOUT_FILENO, b"salt_as_nanos "),
+        17 => io::write_all(STDOUT_FILENO, b"salt_is_zero "),
+        18 => io::write_all(STDOUT_FILENO, b"salt_cmp "),
+        _ => io::write_all(STDOUT_FILENO, b"function without a name "),
+    }
+}
+
+// A line for a function that has rows.
+pub fn print(f: u64, rows: u64) {
+    if rows == 0 {
+        return;
+    }
+    name(f);
+    io::print_decimal(STDOUT_FILENO, rows);
+    io::write_all(STDOUT_FILENO, b"\n");
+}

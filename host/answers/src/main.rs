@@ -1,0 +1,111 @@
+//! Prints the stored list of the oracle's answers, for a program that cannot run the Rust.
+//!
+//! A row is eight numbers of 16 hex digits, one space between them: the function's number, four arguments (unused ones are 0),
+//! the number it must return, and its sixteen bytes as two words, the low one first (both 0 where it refuses).
+
+mod inputs;
+
+use inputs::Inputs;
+use judge::{lent, salt, Answer, Image};
+use oracle::Duration;
+use std::io::{self, BufWriter, Write};
+use std::process::ExitCode;
+
+fn main() -> ExitCode {
+    judge::quiet();
+    match list(BufWriter::new(io::stdout().lock())) {
+        Ok(()) => ExitCode::SUCCESS,
+        Err(error) => {
+            eprintln!("the list could not be written: {error}");
+            ExitCode::FAILURE
+        }
+    }
+}
+
+/// The functions by number. A new one gets the next number and a line here.
+fn list(out: impl Write) -> io::Result<()> {
+    let mut list = List { out };
+    let inputs = Inputs::new();
+
+    list.rows(1, &inputs.carries, |[s, n, ..]| {
+        salt::new(s, n as u32, true)
+    })?;
+    list.rows(2, &inputs.counts, |[n, unit, ..]| {
+        salt::from_unit(n, unit as u32, true)
+    })?;
+    list.rows(3, &inputs.wides, |[low, high, ..]| {
+        salt::from_nanos_u128(u128::from(high) << 64 | u128::from(low), true)
+    })?;
+
+    list.constant(4, salt::SECOND)?;
+    list.constant(5, salt::MILLISECOND)?;
+    list.constant(6, salt::MICROSECOND)?;
+    list.constant(7, salt::NANOSECOND)?;
+    list.constant(8, salt::ZERO)?;
+    list.constant(9, salt::MAX)?;
+
+    list.unary(10, &inputs.pairs, salt::as_secs)?;
+    list.unary(11, &inputs.pairs, salt::subsec_millis)?;
+    list.unary(12, &inputs.pairs, salt::subsec_micros)?;
+    list.unary(13, &inputs.pairs, salt::subsec_nanos)?;
+    list.unary(14, &inputs.pairs, salt::as_millis)?;
+    list.unary(15, &inputs.pairs, salt::as_micros)?;
+    list.unary(16, &inputs.pairs, salt::as_nanos)?;
+    list.unary(17, &inputs.pairs, salt::is_zero)?;
+
+    list.binary(18, &inputs.two_pairs, salt::cmp)?;
+    list.out.flush()
+}
+
+struct List<W> {
+    out: W,
+}
+
+impl<W: Write> List<W> {
+    fn rows(
+        &mut self,
+        function: u64,
+        inputs: &[[u64; 4]],
+        judge: impl Fn([u64; 4]) -> Answer,
+    ) -> io::Result<()> {
+        for &input in inputs {
+            let (number, bytes) = match judge(input) {
+                Ok(bytes) => (0, bytes),
+                Err(refusal) => (refusal, 0),
+            };
+            let [a, b, c, d] = input;
+            let (low, high) = (bytes as u64, (bytes >> 64) as u64);
+            writeln!(
+                self.out,
+                "{function:016X} {a:016X} {b:016X} {c:016X} {d:016X} {number:016X} {low:016X} {high:016X}"
+            )?;
+        }
+        Ok(())
+    }
+
+    fn constant(&mut self, function: u64, value: Duration) -> io::Result<()> {
+        self.rows(function, &[[0; 4]], |_| Ok(value.image()))
+    }
+
+    fn unary(
+        &mut self,
+        function: u64,
+        inputs: &[[u64; 4]],
+        judge: fn(Duration) -> Answer,
+    ) -> io::Result<()> {
+        self.rows(function, inputs, |[secs, nanos, ..]| {
+            judge(lent(secs, nanos as u32)?)
+        })
+    }
+
+    fn binary(
+        &mut self,
+        function: u64,
+        inputs: &[[u64; 4]],
+        judge: fn(Duration, Duration) -> Answer,
+    ) -> io::Result<()> {
+        self.rows(function, inputs, |[secs, nanos, secs2, nanos2]| {
+            judge(lent(secs, nanos as u32)?, lent(secs2, nanos2 as u32)?)
+        })
+    }
+}

@@ -1,0 +1,76 @@
+//! The stop watch: ours and the Rust's in turns, the best round of each.
+
+use judge::Rng;
+use std::hint::black_box;
+use std::time::{Duration, Instant};
+
+const INPUTS: usize = 2_048;
+const ROUNDS: usize = 21;
+const SHORTEST_ROUND: Duration = Duration::from_millis(2);
+
+pub struct Clock {
+    pub rows: usize,
+    only: String,
+}
+
+impl Clock {
+    pub fn new(only: String, source: &str) -> Clock {
+        println!("Rust: {source}; best of {ROUNDS} rounds over {INPUTS} inputs; only the ratio is a claim");
+        println!(
+            "{:<28} {:>9} {:>9} {:>6}",
+            "row", "ours ns", "Rust's ns", "ratio"
+        );
+        Clock { rows: 0, only }
+    }
+
+    /// Times both on the same inputs, after a look that they agree on them.
+    pub fn row<I, B: Clone + PartialEq>(
+        &mut self,
+        name: &str,
+        input: impl Fn(&mut Rng) -> I,
+        buffer: B,
+        ours: impl Fn(&I, &mut B) -> u32,
+        rust: impl Fn(&I, &mut B) -> u32,
+    ) {
+        if !name.contains(&self.only) {
+            return;
+        }
+        let mut rng = Rng::named(1, name);
+        let inputs: Vec<I> = (0..INPUTS).map(|_| input(&mut rng)).collect();
+        for (at, input) in inputs.iter().enumerate() {
+            let (mut a, mut b) = (buffer.clone(), buffer.clone());
+            let agree = ours(input, &mut a) == rust(input, &mut b) && a == b;
+            assert!(agree, "{name}: input {at} differs; run `compare` first");
+        }
+        let mut out = buffer;
+        let once = round(&inputs, &mut out, 1, &rust).max(Duration::from_nanos(1));
+        let repeats = (SHORTEST_ROUND.as_nanos() / once.as_nanos() + 1) as u32;
+        let mut best = [Duration::MAX; 2];
+        for _ in 0..ROUNDS {
+            best[0] = best[0].min(round(&inputs, &mut out, repeats, &ours));
+            best[1] = best[1].min(round(&inputs, &mut out, repeats, &rust));
+        }
+        let calls = f64::from(repeats) * INPUTS as f64;
+        let [a, b] = best.map(|time| time.as_secs_f64() * 1e9 / calls);
+        println!("{name:<28} {a:>9.2} {b:>9.2} {:>6.2}", a / b);
+        self.rows += 1;
+    }
+}
+
+/// One function over all inputs, `repeats` times.
+#[inline(never)]
+fn round<I, B>(
+    inputs: &[I],
+    out: &mut B,
+    repeats: u32,
+    call: impl Fn(&I, &mut B) -> u32,
+) -> Duration {
+    let start = Instant::now();
+    for _ in 0..repeats {
+        for input in inputs {
+            black_box(call(input, out));
+        }
+    }
+    black_box(&*out);
+    start.elapsed()
+}

@@ -1,0 +1,165 @@
+//! The Rust behind the same kind of boundary: C functions of our signatures, in a crate of their own so that nothing crosses the call.
+
+#![feature(duration_constants, duration_constructors)]
+
+use oracle::Duration;
+use std::cmp::Ordering;
+
+/// Two words for the sixteen bytes, or a refusal.
+type Words = Result<(u64, u64), u32>;
+
+/// The test that a Rust user needs before a pair is a duration.
+#[inline]
+fn lent(secs: u64, nanos: u32) -> Result<Duration, u32> {
+    if nanos < 1_000_000_000 {
+        Ok(Duration::new(secs, nanos))
+    } else {
+        Err(10)
+    }
+}
+
+#[inline]
+fn duration(d: Duration) -> (u64, u64) {
+    (d.as_secs(), d.subsec_nanos().into())
+}
+
+#[inline]
+fn count(n: u128) -> (u64, u64) {
+    (n as u64, (n >> 64) as u64)
+}
+
+#[inline]
+fn small(n: impl Into<u64>) -> (u64, u64) {
+    (n.into(), 0)
+}
+
+#[inline]
+fn order(o: Ordering) -> (u64, u64) {
+    ((o as i8 + 1) as u64, 0)
+}
+
+#[inline]
+fn unit(count: u64, unit: u32) -> Result<Duration, u32> {
+    Ok(match unit {
+        0 => Duration::from_nanos(count),
+        1 => Duration::from_micros(count),
+        2 => Duration::from_millis(count),
+        3 => Duration::from_secs(count),
+        4 => Duration::from_mins(count),
+        5 => Duration::from_hours(count),
+        6 => Duration::from_days(count),
+        7 => Duration::from_weeks(count),
+        _ => return Err(11),
+    })
+}
+
+#[inline]
+fn wide(low: u64, high: u64) -> u128 {
+    u128::from(high) << 64 | u128::from(low)
+}
+
+macro_rules! boundary {
+    ($($name:ident($($arg:ident: $ty:ty),*) = $words:expr;)*) => {$(
+        /// # Safety
+        /// `out` and `len` are those of one slice that nobody else holds.
+        #[inline(never)]
+        pub unsafe extern "C" fn $name($($arg: $ty,)* out: *mut u8, len: usize) -> u32 {
+            let words = || -> Words { Ok($words) };
+            match words() {
+                Err(refusal) => refusal,
+                Ok(_) if len < 16 => 9,
+                Ok((low, high)) => {
+                    let out = std::slice::from_raw_parts_mut(out, 16);
+                    out[..8].copy_from_slice(&low.to_le_bytes());
+                    out[8..].copy_from_slice(&high.to_le_bytes());
+                    0
+                }
+            }
+        }
+    )*};
+}
+
+boundary! {
+    new(secs: u64, nanos: u32) = duration(Duration::new(secs, nanos));
+    from_unit(count: u64, number: u32) = duration(unit(count, number)?);
+    from_nanos_u128(low: u64, high: u64) = duration(Duration::from_nanos_u128(wide(low, high)));
+
+    second() = duration(Duration::SECOND);
+    millisecond() = duration(Duration::MILLISECOND);
+    microsecond() = duration(Duration::MICROSECOND);
+    nanosecond() = duration(Duration::NANOSECOND);
+    zero() = duration(Duration::ZERO);
+    max() = duration(Duration::MAX);
+
+    as_secs(secs: u64, nanos: u32) = small(lent(secs, nanos)?.as_secs());
+    subsec_millis(secs: u64, nanos: u32) = small(lent(secs, nanos)?.subsec_millis());
+    subsec_micros(secs: u64, nanos: u32) = small(lent(secs, nanos)?.subsec_micros());
+    subsec_nanos(secs: u64, nanos: u32) = small(lent(secs, nanos)?.subsec_nanos());
+    as_millis(secs: u64, nanos: u32) = count(lent(secs, nanos)?.as_millis());
+    as_micros(secs: u64, nanos: u32) = count(lent(secs, nanos)?.as_micros());
+    as_nanos(secs: u64, nanos: u32) = count(lent(secs, nanos)?.as_nanos());
+    is_zero(secs: u64, nanos: u32) = small(lent(secs, nanos)?.is_zero());
+
+    cmp(secs: u64, nanos: u32, secs2: u64, nanos2: u32) = order(lent(secs, nanos)?.cmp(&lent(secs2, nanos2)?));
+}
+
+/// Two-word arithmetic by Rust's u128.
+pub mod door {
+    use super::{count, order, wide};
+
+    type Four = Result<((u64, u64), (u64, u64)), u32>;
+
+    macro_rules! boundary {
+        ($($name:ident($($arg:ident: $ty:ty),*) = $words:expr;)*) => {$(
+            /// # Safety
+            /// `out` points to four words that nobody else holds.
+            #[inline(never)]
+            pub unsafe extern "C" fn $name($($arg: $ty,)* out: *mut u64) -> u32 {
+                let words = || -> Four { Ok($words) };
+                match words() {
+                    Err(refusal) => refusal,
+                    Ok(((a, b), (c, d))) => {
+                        *out.cast::<[u64; 4]>() = [a, b, c, d];
+                        0
+                    }
+                }
+            }
+        )*};
+    }
+
+    const NONE: (u64, u64) = (0, 0);
+
+    #[inline]
+    fn left(x: u128, n: u32) -> Result<u128, u32> {
+        if x == 0 {
+            Ok(0)
+        } else if n > x.leading_zeros() {
+            Err(3)
+        } else {
+            Ok(x << n)
+        }
+    }
+
+    #[inline]
+    fn quotient(n: u128, d: u128) -> Four {
+        if d == 0 {
+            return Err(5);
+        }
+        Ok((count(n / d), count(n % d)))
+    }
+
+    boundary! {
+        mul(a: u64, b: u64) = (count(u128::from(a) * u128::from(b)), NONE);
+        add(x_lo: u64, x_hi: u64, y_lo: u64, y_hi: u64) =
+            (count(wide(x_lo, x_hi).checked_add(wide(y_lo, y_hi)).ok_or(3u32)?), NONE);
+        sub(x_lo: u64, x_hi: u64, y_lo: u64, y_hi: u64) =
+            (count(wide(x_lo, x_hi).checked_sub(wide(y_lo, y_hi)).ok_or(4u32)?), NONE);
+        compare(x_lo: u64, x_hi: u64, y_lo: u64, y_hi: u64) =
+            (order(wide(x_lo, x_hi).cmp(&wide(y_lo, y_hi))), NONE);
+        shl(x_lo: u64, x_hi: u64, n: u32) = (count(left(wide(x_lo, x_hi), n)?), NONE);
+        shr(x_lo: u64, x_hi: u64, n: u32) =
+            (count(wide(x_lo, x_hi).checked_shr(n).unwrap_or(0)), NONE);
+        div(n_lo: u64, n_hi: u64, d_lo: u64, d_hi: u64) =
+            quotient(wide(n_lo, n_hi), wide(d_lo, d_hi))?;
+    }
+}

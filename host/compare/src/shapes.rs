@@ -1,0 +1,164 @@
+//! Random inputs of several shapes: uniform, of any bit length, near multiples, at the edges, and bad ones.
+
+use judge::{edges, Rng};
+
+const GIGA: u64 = 1_000_000_000;
+
+pub struct Shapes {
+    pub words: Vec<u64>,
+    pub nanos: Vec<u32>,
+    pub units: Vec<u32>,
+    pub wides: Vec<u128>,
+    pub shifts: Vec<u32>,
+}
+
+impl Shapes {
+    pub fn new() -> Shapes {
+        Shapes {
+            words: edges::words(),
+            nanos: edges::nanos(),
+            units: edges::units(),
+            wides: edges::wides(),
+            shifts: edges::shifts(),
+        }
+    }
+
+    pub fn word(&self, rng: &mut Rng) -> u64 {
+        match rng.below(8) {
+            0 | 1 => rng.word(),
+            2 | 3 => rng.word_of_any_length(),
+            4 => {
+                let part = rng.pick(&[60, 1_000, 3_600, 1_000_000, GIGA]);
+                let multiple = rng.word_of_any_length() / part * part;
+                multiple.wrapping_add(rng.below(3)).wrapping_sub(1)
+            }
+            5 => rng.pick(&self.words),
+            6 => blocks(rng) as u64,
+            _ => u64::MAX - rng.below(16),
+        }
+    }
+
+    /// One in eight is 10^9 or more.
+    pub fn nanos(&self, rng: &mut Rng) -> u32 {
+        match rng.below(8) {
+            0..=2 => rng.below(GIGA) as u32,
+            3 => (rng.word() >> 35)
+                .checked_shr(rng.below(30) as u32)
+                .unwrap_or(0) as u32,
+            4 => {
+                let part = rng.pick(&[1_000, 1_000_000]);
+                let near = rng.below(GIGA / part) * part + part - 1 + rng.below(3);
+                near.min(GIGA - 1) as u32
+            }
+            5 => rng.pick(&self.nanos),
+            6 => (GIGA - 1 - rng.below(1_000)) as u32,
+            _ => (GIGA + rng.below((1 << 32) - GIGA)) as u32,
+        }
+    }
+
+    pub fn pair(&self, rng: &mut Rng) -> (u64, u32) {
+        (self.word(rng), self.nanos(rng))
+    }
+
+    /// For a function that carries: one in eight is about to go over.
+    pub fn carry(&self, rng: &mut Rng) -> (u64, u32) {
+        match rng.below(8) {
+            0 => (u64::MAX - rng.below(6), rng.word() as u32),
+            1 => (self.word(rng), rng.word() as u32),
+            _ => self.pair(rng),
+        }
+    }
+
+    /// The second is often the first again, or close to it.
+    pub fn two_pairs(&self, rng: &mut Rng) -> ((u64, u32), (u64, u32)) {
+        let (secs, nanos) = self.pair(rng);
+        let second = match rng.below(8) {
+            0 => (secs, nanos),
+            1 => (secs, self.nanos(rng)),
+            2 => (secs, nanos.wrapping_add(1)),
+            3 => (secs.wrapping_add(1), nanos),
+            4 => (secs.wrapping_sub(1), self.nanos(rng)),
+            _ => self.pair(rng),
+        };
+        ((secs, nanos), second)
+    }
+
+    /// A count that suits the unit: below its limit, at it, or anything.
+    pub fn count(&self, rng: &mut Rng) -> (u64, u32) {
+        if rng.below(32) == 0 {
+            return (self.word(rng), rng.pick(&self.units));
+        }
+        let unit = rng.below(8);
+        let limit = edges::UNIT_LIMITS[unit as usize];
+        let count = match rng.below(4) {
+            0 => rng.below(limit),
+            1 => limit.wrapping_add(rng.below(200)).wrapping_sub(100),
+            _ => self.word(rng),
+        };
+        (count, unit as u32)
+    }
+
+    pub fn wide(&self, rng: &mut Rng) -> u128 {
+        match rng.below(8) {
+            0 => rng.wide(),
+            1..=3 => rng.wide_of_any_length(),
+            4 => rng.pick(&self.wides),
+            5 => blocks(rng),
+            6 => blocks(rng) >> rng.below(128),
+            _ => u128::from(rng.word()),
+        }
+    }
+
+    /// Nanoseconds of a duration, near the longest one, or anything.
+    pub fn wide_nanos(&self, rng: &mut Rng) -> u128 {
+        match rng.below(4) {
+            0 | 1 => u128::from(self.word(rng)) * u128::from(GIGA) + u128::from(self.nanos(rng)),
+            2 => edges::MAX_NANOS - 1_000 + u128::from(rng.below(2_000)),
+            _ => self.wide(rng),
+        }
+    }
+
+    /// The second is often close to the first.
+    pub fn two_wides(&self, rng: &mut Rng) -> (u128, u128) {
+        let x = self.wide(rng);
+        let y = match rng.below(8) {
+            0 => x,
+            1 => x.wrapping_add(1),
+            2 => x ^ u128::from(self.word(rng)),
+            3 => (!x).wrapping_add(u128::from(rng.below(3))),
+            _ => self.wide(rng),
+        };
+        (x, y)
+    }
+
+    /// A multiple of the divisor, one less, or the last before the next; else anything.
+    pub fn quotient(&self, rng: &mut Rng) -> (u128, u128) {
+        let d = self.wide(rng);
+        let multiple = d.wrapping_mul(self.wide(rng));
+        let n = match rng.below(6) {
+            0 => multiple,
+            1 => multiple.wrapping_sub(1),
+            2 => multiple.wrapping_add(d).wrapping_sub(1),
+            _ => self.wide(rng),
+        };
+        (n, d)
+    }
+
+    pub fn shift(&self, rng: &mut Rng) -> (u128, u32) {
+        let x = self.wide(rng);
+        let n = match rng.below(4) {
+            0 => rng.pick(&self.shifts),
+            1 => x.leading_zeros() + rng.below(2) as u32,
+            _ => rng.below(130) as u32,
+        };
+        (x, n)
+    }
+}
+
+/// Sixteen bits at a time all zeros, all ones, one end bit, or random.
+fn blocks(rng: &mut Rng) -> u128 {
+    (0..8).fold(0, |number, _| {
+        let random = rng.word() & 0xFFFF;
+        number << 16 | u128::from(rng.pick(&[0, 0xFFFF, 1, 0x8000, random, random]))
+    })
+}

@@ -1,0 +1,147 @@
+//! The suites, one row a function: its name, the numbers its cases must meet, how many real panics at least, and its driver.
+
+use crate::shapes::Shapes;
+use crate::trial::{Outcome, Trial};
+use crate::wrapper;
+use judge::edges::cross;
+use judge::{salt, wide};
+use saltribbon::raw;
+use wide_door as door;
+
+pub struct Suite {
+    pub name: &'static str,
+    /// Every number that some case must expect, and no other.
+    pub numbers: &'static [u32],
+    /// The least number of panics of the Rust that stand behind a refusal.
+    pub panics: u64,
+    pub run: fn(&mut Trial) -> Outcome,
+}
+
+const fn suite(
+    name: &'static str,
+    numbers: &'static [u32],
+    panics: u64,
+    run: fn(&mut Trial) -> Outcome,
+) -> Suite {
+    Suite {
+        name,
+        numbers,
+        panics,
+        run,
+    }
+}
+
+pub fn all() -> Vec<Suite> {
+    let mut suites = two_words();
+    suites.extend(constructors_and_parts());
+    suites.push(suite("wrapper", &[], 0, wrapper::run));
+    suites
+}
+
+fn two_words() -> Vec<Suite> {
+    vec![
+        suite("door_mul", &[0], 0, |t| {
+            let edges = cross(&t.shapes.words, &t.shapes.words);
+            t.door(
+                edges,
+                |s, r| (s.word(r), s.word(r)),
+                |(a, b), out| door::mul(a, b, out),
+                |(a, b)| wide::mul(a, b),
+            )
+        }),
+        suite("door_add", &[0, 3], 0, |t| {
+            two(t, Shapes::two_wides, door::add, wide::add)
+        }),
+        suite("door_sub", &[0, 4], 0, |t| {
+            two(t, Shapes::two_wides, door::sub, wide::sub)
+        }),
+        suite("door_compare", &[0], 0, |t| {
+            two(t, Shapes::two_wides, door::compare, wide::compare)
+        }),
+        suite("door_shl", &[0, 3], 0, |t| shift(t, door::shl, wide::shl)),
+        suite("door_shr", &[0], 0, |t| shift(t, door::shr, wide::shr)),
+        suite("door_div", &[0, 5], 0, |t| {
+            two(t, Shapes::quotient, door::div, wide::div)
+        }),
+    ]
+}
+
+fn two(
+    t: &mut Trial,
+    random: fn(&Shapes, &mut judge::Rng) -> (u128, u128),
+    call: fn(u64, u64, u64, u64, &mut [u64; 4]) -> u32,
+    judge: fn(u128, u128) -> wide::Words,
+) -> Outcome {
+    let edges = cross(&t.shapes.wides, &t.shapes.wides);
+    let call = |(x, y): (u128, u128), out: &mut [u64; 4]| {
+        call(x as u64, (x >> 64) as u64, y as u64, (y >> 64) as u64, out)
+    };
+    t.door(edges, random, call, |(x, y)| judge(x, y))
+}
+
+fn shift(
+    t: &mut Trial,
+    call: fn(u64, u64, u32, &mut [u64; 4]) -> u32,
+    judge: fn(u128, u32) -> wide::Words,
+) -> Outcome {
+    let edges = cross(&t.shapes.wides, &t.shapes.shifts);
+    let call = |(x, n): (u128, u32), out: &mut [u64; 4]| call(x as u64, (x >> 64) as u64, n, out);
+    t.door(edges, Shapes::shift, call, |(x, n)| judge(x, n))
+}
+
+fn constructors_and_parts() -> Vec<Suite> {
+    vec![
+        suite("salt_new", &[0, 3, 9], 2_000, |t| {
+            t.pair(raw::new, salt::new)
+        }),
+        suite("salt_from_unit", &[0, 3, 9, 11], 2_000, |t| {
+            t.count(raw::from_unit, salt::from_unit)
+        }),
+        suite("salt_from_nanos_u128", &[0, 3, 9], 2_000, |t| {
+            t.wide_count(raw::from_nanos_u128, salt::from_nanos_u128)
+        }),
+        suite("salt_second", &[0, 9], 0, |t| {
+            t.constant(raw::second, salt::SECOND)
+        }),
+        suite("salt_millisecond", &[0, 9], 0, |t| {
+            t.constant(raw::millisecond, salt::MILLISECOND)
+        }),
+        suite("salt_microsecond", &[0, 9], 0, |t| {
+            t.constant(raw::microsecond, salt::MICROSECOND)
+        }),
+        suite("salt_nanosecond", &[0, 9], 0, |t| {
+            t.constant(raw::nanosecond, salt::NANOSECOND)
+        }),
+        suite("salt_zero", &[0, 9], 0, |t| {
+            t.constant(raw::zero, salt::ZERO)
+        }),
+        suite("salt_max", &[0, 9], 0, |t| t.constant(raw::max, salt::MAX)),
+        suite("salt_as_secs", &[0, 9, 10], 0, |t| {
+            t.unary(raw::as_secs, salt::as_secs)
+        }),
+        suite("salt_subsec_millis", &[0, 9, 10], 0, |t| {
+            t.unary(raw::subsec_millis, salt::subsec_millis)
+        }),
+        suite("salt_subsec_micros", &[0, 9, 10], 0, |t| {
+            t.unary(raw::subsec_micros, salt::subsec_micros)
+        }),
+        suite("salt_subsec_nanos", &[0, 9, 10], 0, |t| {
+            t.unary(raw::subsec_nanos, salt::subsec_nanos)
+        }),
+        suite("salt_as_millis", &[0, 9, 10], 0, |t| {
+            t.unary(raw::as_millis, salt::as_millis)
+        }),
+        suite("salt_as_micros", &[0, 9, 10], 0, |t| {
+            t.unary(raw::as_micros, salt::as_micros)
+        }),
+        suite("salt_as_nanos", &[0, 9, 10], 0, |t| {
+            t.unary(raw::as_nanos, salt::as_nanos)
+        }),
+        suite("salt_is_zero", &[0, 9, 10], 0, |t| {
+            t.unary(raw::is_zero, salt::is_zero)
+        }),
+        suite("salt_cmp", &[0, 9, 10], 0, |t| {
+            t.binary(raw::cmp, salt::cmp)
+        }),
+    ]
+}

@@ -1,0 +1,182 @@
+//! The safe wrapper against the raw functions: the same value or the same refusal, and each refusal's name and number.
+
+use crate::trial::{Difference, Outcome, Trial};
+use judge::{Answer, Image};
+use saltribbon::{raw, Duration, Refusal};
+use std::fmt::Debug;
+
+/// The table of refusals, written out once more.
+const NAMES: [(u32, &str); 11] = [
+    (1, "Negative"),
+    (2, "OverflowOrNan"),
+    (3, "Overflow"),
+    (4, "Underflow"),
+    (5, "ZeroDivisor"),
+    (6, "BadRow"),
+    (7, "BadRange"),
+    (8, "BadOptions"),
+    (9, "NoRoom"),
+    (10, "BadDuration"),
+    (11, "BadUnit"),
+];
+
+/// The wrapper's own duration in sixteen bytes.
+fn bytes(d: Duration) -> u128 {
+    u128::from(d.nanos) << 64 | u128::from(d.secs)
+}
+
+fn of<T>(answer: Result<T, Refusal>, image: impl Fn(T) -> u128) -> Answer {
+    answer.map(image).map_err(Refusal::number)
+}
+
+fn asked(call: impl Fn(&mut [u8]) -> u32) -> Answer {
+    let mut out = [0; 16];
+    match call(&mut out) {
+        0 => Ok(u128::from_le_bytes(out)),
+        number => Err(number),
+    }
+}
+
+pub fn run(trial: &mut Trial) -> Outcome {
+    names(trial)?;
+    constants(trial)?;
+    for _ in 0..trial.share(50_000) {
+        let ((secs, nanos), (secs2, nanos2)) = trial.shapes.two_pairs(&mut trial.rng);
+        made(trial, secs, nanos)?;
+        parts(trial, Duration { secs, nanos })?;
+        let (a, b) = (
+            Duration { secs, nanos },
+            Duration {
+                secs: secs2,
+                nanos: nanos2,
+            },
+        );
+        let raw = asked(|out| raw::cmp(secs, nanos, secs2, nanos2, out));
+        same(trial, "cmp", (a, b), of(a.cmp(b), Image::image), raw)?;
+    }
+    Ok(())
+}
+
+fn same(
+    trial: &mut Trial,
+    method: &str,
+    input: impl Debug,
+    wrapper: Answer,
+    raw: Answer,
+) -> Outcome {
+    trial.cases += 1;
+    if wrapper == raw {
+        return Ok(());
+    }
+    Err(Difference::new(format!(
+        "wrapper {method}, input {input:?}\nexpected {raw:X?}\nfound    {wrapper:X?}"
+    )))
+}
+
+fn names(trial: &mut Trial) -> Outcome {
+    for number in 0..64 {
+        trial.cases += 1;
+        let found = Refusal::from_number(number).map(|r| (r.number(), r.to_string()));
+        let row = NAMES.iter().find(|(n, _)| *n == number);
+        let expected = row.map(|(n, name)| (*n, name.to_string()));
+        if found != expected {
+            return Err(Difference::new(format!(
+                "refusal {number}\nexpected {expected:?}\nfound    {found:?}"
+            )));
+        }
+    }
+    Ok(())
+}
+
+fn constants(trial: &mut Trial) -> Outcome {
+    let mut one = |name, answer, call: fn(&mut [u8]) -> u32| {
+        same(trial, name, (), of(answer, bytes), asked(call))
+    };
+    one("second", Duration::second(), raw::second)?;
+    one("millisecond", Duration::millisecond(), raw::millisecond)?;
+    one("microsecond", Duration::microsecond(), raw::microsecond)?;
+    one("nanosecond", Duration::nanosecond(), raw::nanosecond)?;
+    one("zero", Duration::zero(), raw::zero)?;
+    one("max", Duration::max(), raw::max)
+}
+
+fn made(trial: &mut Trial, secs: u64, nanos: u32) -> Outcome {
+    let raw = asked(|out| raw::new(secs, nanos, out));
+    same(
+        trial,
+        "new",
+        (secs, nanos),
+        of(Duration::new(secs, nanos), bytes),
+        raw,
+    )?;
+
+    let wide = trial.shapes.wide_nanos(&mut trial.rng);
+    let raw = asked(|out| raw::from_nanos_u128(wide as u64, (wide >> 64) as u64, out));
+    same(
+        trial,
+        "from_nanos_u128",
+        wide,
+        of(Duration::from_nanos_u128(wide), bytes),
+        raw,
+    )?;
+
+    let (count, unit) = trial.shapes.count(&mut trial.rng);
+    let raw = asked(|out| raw::from_unit(count, unit, out));
+    same(
+        trial,
+        "from_unit",
+        (count, unit),
+        of(Duration::from_unit(count, unit), bytes),
+        raw,
+    )?;
+    let named = match unit {
+        0 => Duration::from_nanos(count),
+        1 => Duration::from_micros(count),
+        2 => Duration::from_millis(count),
+        3 => Duration::from_secs(count),
+        4 => Duration::from_mins(count),
+        5 => Duration::from_hours(count),
+        6 => Duration::from_days(count),
+        7 => Duration::from_weeks(count),
+        _ => return Ok(()),
+    };
+    same(
+        trial,
+        "a unit by name",
+        (count, unit),
+        of(named, bytes),
+        raw,
+    )
+}
+
+fn parts(trial: &mut Trial, d: Duration) -> Outcome {
+    let mut one = |name, wrapper, call: fn(u64, u32, &mut [u8]) -> u32| {
+        same(
+            trial,
+            name,
+            d,
+            wrapper,
+            asked(|out| call(d.secs, d.nanos, out)),
+        )
+    };
+    one("as_secs", of(d.as_secs(), Image::image), raw::as_secs)?;
+    one(
+        "subsec_millis",
+        of(d.subsec_millis(), Image::image),
+        raw::subsec_millis,
+    )?;
+    one(
+        "subsec_micros",
+        of(d.subsec_micros(), Image::image),
+        raw::subsec_micros,
+    )?;
+    one(
+        "subsec_nanos",
+        of(d.subsec_nanos(), Image::image),
+        raw::subsec_nanos,
+    )?;
+    one("as_millis", of(d.as_millis(), Image::image), raw::as_millis)?;
+    one("as_micros", of(d.as_micros(), Image::image), raw::as_micros)?;
+    one("as_nanos", of(d.as_nanos(), Image::image), raw::as_nanos)?;
+    one("is_zero", of(d.is_zero(), Image::image), raw::is_zero)
+}

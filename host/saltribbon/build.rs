@@ -1,0 +1,8 @@
+//! Links libsaltribbon.a.
+
+#[path = "../link.rs"]
+mod link;
+
+fn main() {
+    link::link("saltribbon");
+}

@@ -1,0 +1,38 @@
+//! One thin, safe function for each C function: the caller lends the buffer and gets the number that came back.
+
+use crate::sys;
+
+macro_rules! thin {
+    ($($name:ident = $c:ident($($arg:ident: $ty:ty),*);)*) => {$(
+        #[doc = concat!("`", stringify!($c), "`: 0, or the refusal's number and an untouched buffer.")]
+        #[inline]
+        pub fn $name($($arg: $ty,)* out: &mut [u8]) -> u32 {
+            // SAFETY: the pointer and the length are those of one slice that nobody else holds.
+            unsafe { sys::$c($($arg,)* out.as_mut_ptr(), out.len()) }
+        }
+    )*};
+}
+
+thin! {
+    new = salt_new(secs: u64, nanos: u32);
+    from_unit = salt_from_unit(count: u64, unit: u32);
+    from_nanos_u128 = salt_from_nanos_u128(low: u64, high: u64);
+
+    second = salt_second();
+    millisecond = salt_millisecond();
+    microsecond = salt_microsecond();
+    nanosecond = salt_nanosecond();
+    zero = salt_zero();
+    max = salt_max();
+
+    as_secs = salt_as_secs(secs: u64, nanos: u32);
+    subsec_millis = salt_subsec_millis(secs: u64, nanos: u32);
+    subsec_micros = salt_subsec_micros(secs: u64, nanos: u32);
+    subsec_nanos = salt_subsec_nanos(secs: u64, nanos: u32);
+    as_millis = salt_as_millis(secs: u64, nanos: u32);
+    as_micros = salt_as_micros(secs: u64, nanos: u32);
+    as_nanos = salt_as_nanos(secs: u64, nanos: u32);
+    is_zero = salt_is_zero(secs: u64, nanos: u32);
+
+    cmp = salt_cmp(secs: u64, nanos: u32, secs2: u64, nanos2: u32);
+}

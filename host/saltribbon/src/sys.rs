@@ -1,0 +1,32 @@
+//! The C functions as the archive has them. Each returns 0 or a refusal number; the lent buffer is a pointer and a length.
+
+extern "C" {
+    pub fn salt_new(secs: u64, nanos: u32, out: *mut u8, len: usize) -> u32;
+    pub fn salt_from_unit(count: u64, unit: u32, out: *mut u8, len: usize) -> u32;
+    pub fn salt_from_nanos_u128(low: u64, high: u64, out: *mut u8, len: usize) -> u32;
+
+    pub fn salt_second(out: *mut u8, len: usize) -> u32;
+    pub fn salt_millisecond(out: *mut u8, len: usize) -> u32;
+    pub fn salt_microsecond(out: *mut u8, len: usize) -> u32;
+    pub fn salt_nanosecond(out: *mut u8, len: usize) -> u32;
+    pub fn salt_zero(out: *mut u8, len: usize) -> u32;
+    pub fn salt_max(out: *mut u8, len: usize) -> u32;
+
+    pub fn salt_as_secs(secs: u64, nanos: u32, out: *mut u8, len: usize) -> u32;
+    pub fn salt_subsec_millis(secs: u64, nanos: u32, out: *mut u8, len: usize) -> u32;
+    pub fn salt_subsec_micros(secs: u64, nanos: u32, out: *mut u8, len: usize) -> u32;
+    pub fn salt_subsec_nanos(secs: u64, nanos: u32, out: *mut u8, len: usize) -> u32;
+    pub fn salt_as_millis(secs: u64, nanos: u32, out: *mut u8, len: usize) -> u32;
+    pub fn salt_as_micros(secs: u64, nanos: u32, out: *mut u8, len: usize) -> u32;
+    pub fn salt_as_nanos(secs: u64, nanos: u32, out: *mut u8, len: usize) -> u32;
+    pub fn salt_is_zero(secs: u64, nanos: u32, out: *mut u8, len: usize) -> u32;
+
+    pub fn salt_cmp(
+        secs: u64,
+        nanos: u32,
+        secs2: u64,
+        nanos2: u32,
+        out: *mut u8,
+        len: usize,
+    ) -> u32;
+}

@@ -1,0 +1,8 @@
+//! Links libdoor.a.
+
+#[path = "../link.rs"]
+mod link;
+
+fn main() {
+    link::link("door");
+}
