@@ -149,7 +149,9 @@ pub mod door {
     }
 
     boundary! {
-        mul(a: u64, b: u64) = (count(u128::from(a) * u128::from(b)), NONE);
+        widening_mul(a: u64, b: u64) = (count(u128::from(a) * u128::from(b)), NONE);
+        mul(x_lo: u64, x_hi: u64, y_lo: u64, y_hi: u64) =
+            (count(wide(x_lo, x_hi).checked_mul(wide(y_lo, y_hi)).ok_or(3u32)?), NONE);
         add(x_lo: u64, x_hi: u64, y_lo: u64, y_hi: u64) =
             (count(wide(x_lo, x_hi).checked_add(wide(y_lo, y_hi)).ok_or(3u32)?), NONE);
         sub(x_lo: u64, x_hi: u64, y_lo: u64, y_hi: u64) =

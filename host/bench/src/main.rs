@@ -187,7 +187,18 @@ fn two_words(c: &mut Clock) {
         let (low, high) = halves(r.wide() >> n);
         (low, high, n)
     };
-    door!(c, "door_mul", |r| (r.word(), r.word()), mul(a, b));
+    let factors = |r: &mut Rng| {
+        let n = r.below(120) as u32 + 1;
+        let ((a, b), (x, y)) = (halves(r.wide() >> n), halves(r.wide() >> (128 - n)));
+        (a, b, x, y)
+    };
+    door!(
+        c,
+        "door_widening_mul",
+        |r| (r.word(), r.word()),
+        widening_mul(a, b)
+    );
+    door!(c, "door_mul", factors, mul(x_lo, x_hi, y_lo, y_hi));
     door!(c, "door_add", small, add(x_lo, x_hi, y_lo, y_hi));
     door!(c, "door_sub", falling, sub(x_lo, x_hi, y_lo, y_hi));
     door!(c, "door_compare", small, compare(x_lo, x_hi, y_lo, y_hi));

@@ -40,14 +40,17 @@ pub fn all() -> Vec<Suite> {
 
 fn two_words() -> Vec<Suite> {
     vec![
-        suite("door_mul", &[0], 0, |t| {
+        suite("door_widening_mul", &[0], 0, |t| {
             let edges = cross(&t.shapes.words, &t.shapes.words);
             t.door(
                 edges,
                 |s, r| (s.word(r), s.word(r)),
-                |(a, b), out| door::mul(a, b, out),
-                |(a, b)| wide::mul(a, b),
+                |(a, b), out| door::widening_mul(a, b, out),
+                |(a, b)| wide::widening_mul(a, b),
             )
+        }),
+        suite("door_mul", &[0, 3], 0, |t| {
+            two(t, Shapes::two_wides, door::mul, wide::mul)
         }),
         suite("door_add", &[0, 3], 0, |t| {
             two(t, Shapes::two_wides, door::add, wide::add)

@@ -10,8 +10,14 @@ fn words(first: u128, second: u128) -> [u64; 4] {
     [a, b, c, d]
 }
 
-pub fn mul(a: u64, b: u64) -> Words {
+pub fn widening_mul(a: u64, b: u64) -> Words {
     Ok(words(u128::from(a) * u128::from(b), 0))
+}
+
+pub fn mul(x: u128, y: u128) -> Words {
+    x.checked_mul(y)
+        .map(|product| words(product, 0))
+        .ok_or(OVERFLOW)
 }
 
 pub fn add(x: u128, y: u128) -> Words {

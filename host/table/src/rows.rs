@@ -47,9 +47,9 @@ fn units() -> Vec<Row> {
 fn pairs() -> Vec<Row> {
     let made = [(1, 1_500_000_000), (u64::MAX, 1_000_000_000)];
     let held = [
-        ("fuel pump prime", 2, 250_000_000),
-        ("injector, cold start", 0, 4_200_000),
-        ("mistyped row", 1, 1_000_000_000),
+        ("release", 2, 250_000_000),
+        ("hold-off", 0, 4_200_000),
+        ("ramp, mistyped", 1, 1_000_000_000),
     ];
     let new = |(secs, nanos)| {
         let answer = Duration::new(secs, nanos).and_then(time);

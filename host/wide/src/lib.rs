@@ -1,7 +1,8 @@
 //! Two-word arithmetic over C, for the judge alone: the library proper has no such functions.
 
 extern "C" {
-    fn door_mul(a: u64, b: u64, out: *mut u64) -> u32;
+    fn door_widening_mul(a: u64, b: u64, out: *mut u64) -> u32;
+    fn door_mul(x_lo: u64, x_hi: u64, y_lo: u64, y_hi: u64, out: *mut u64) -> u32;
     fn door_add(x_lo: u64, x_hi: u64, y_lo: u64, y_hi: u64, out: *mut u64) -> u32;
     fn door_sub(x_lo: u64, x_hi: u64, y_lo: u64, y_hi: u64, out: *mut u64) -> u32;
     fn door_compare(x_lo: u64, x_hi: u64, y_lo: u64, y_hi: u64, out: *mut u64) -> u32;
@@ -22,7 +23,8 @@ macro_rules! thin {
 }
 
 thin! {
-    mul = door_mul(a: u64, b: u64);
+    widening_mul = door_widening_mul(a: u64, b: u64);
+    mul = door_mul(x_lo: u64, x_hi: u64, y_lo: u64, y_hi: u64);
     add = door_add(x_lo: u64, x_hi: u64, y_lo: u64, y_hi: u64);
     sub = door_sub(x_lo: u64, x_hi: u64, y_lo: u64, y_hi: u64);
     compare = door_compare(x_lo: u64, x_hi: u64, y_lo: u64, y_hi: u64);
