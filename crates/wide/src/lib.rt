@@ -1,8 +1,14 @@
-// Two-word arithmetic: a number below 2^128 as a high and a low word of 64 bits.
-ghost use mathlib.Core.Path.{_≡_};
-ghost use Prim.Native.Nat.{_+_, _*_};
-ghost use Rattle.wide.specs.Wide.{words};
+// Two-word arithmetic: a number below 2^128 as a high and a low word of 64 bits. Every function here answers for every input.
 use refusal::Refusal;
+ghost use mathlib.Core.Path.{_≡_};
+ghost use Prim.Native.Nat.{_+_, _*_, _/_, _^_};
+ghost use Rattle.wide.specs.Wide.{wide, words, answer, difference, order, division};
+
+mod carry; // sums and differences of words
+mod long; // division by two words
+mod product; // the words of a product
+mod shift; // shifts of words
+mod short; // division by one word
 
 pub struct Wide {
     pub hi: u64,
@@ -20,18 +26,159 @@ pub enum Order {
     Greater,
 }
 
-// The base of a half word.
-const HALF: u64 = 0x1_0000_0000;
+pub struct Division {
+    pub quotient: Wide,
+    pub remainder: Wide,
+}
 
-// a * b + c, which always fits: two products where a whole one has four.
+pub enum DivAnswer {
+    Divided(Division),
+    Refused(Refusal),
+}
+
+// a * b, exactly.
+pub fn widening_mul(a: u64, b: u64) -> Wide
+    ensures { λ r. ⌜ r ≡ words (a * b) ⌝ }
+{
+    Wide {
+        hi: product::high(a, b),
+        lo: product::low(a, b),
+    }
+}
+
+// a * b + c, which always fits two words. A b of half a word takes two products where a whole one takes four.
 pub fn scaled(a: u64, b: u32, c: u32) -> Wide
     ensures { λ r. ⌜ r ≡ words (a * b + c) ⌝ }
 {
     let k = b as u64;
-    let low = a % HALF * k + c as u64;
-    let high = a / HALF * k + low / HALF;
+    let low = a % 0x1_0000_0000 * k + c as u64;
+    let high = a / 0x1_0000_0000 * k + low / 0x1_0000_0000;
     Wide {
-        hi: high / HALF,
-        lo: high % HALF * HALF + low % HALF,
+        hi: high / 0x1_0000_0000,
+        lo: high % 0x1_0000_0000 * 0x1_0000_0000 + low % 0x1_0000_0000,
     }
+}
+
+// x * y. Two numbers of two words each always have a product of more.
+pub fn mul(x: Wide, y: Wide) -> WideAnswer
+    ensures { λ r. ⌜ r ≡ answer (wide x * wide y) ⌝ }
+{
+    if x.hi == 0 {
+        return product::scale(y, x.lo);
+    }
+    if y.hi == 0 {
+        return product::scale(x, y.lo);
+    }
+    WideAnswer::Refused(Refusal::Overflow)
+}
+
+// x + y.
+pub fn add(x: Wide, y: Wide) -> WideAnswer
+    ensures { λ r. ⌜ r ≡ answer (wide x + wide y) ⌝ }
+{
+    let low = carry::plus(x.lo, y.lo);
+    let over = low.over;
+    let lo = low.word;
+    let h = x.hi;
+    let k = y.hi;
+    if u64::MAX - h < k {
+        return WideAnswer::Refused(Refusal::Overflow);
+    }
+    let hi = h + k;
+    if u64::MAX - hi < over {
+        return WideAnswer::Refused(Refusal::Overflow);
+    }
+    WideAnswer::Is(Wide { hi: hi + over, lo })
+}
+
+// x - y.
+pub fn sub(x: Wide, y: Wide) -> WideAnswer
+    ensures { λ r. ⌜ r ≡ difference (wide x) (wide y) ⌝ }
+{
+    let low = carry::take(x.lo, y.lo);
+    let over = low.over;
+    let lo = low.word;
+    let h = x.hi;
+    let k = y.hi;
+    if h < k {
+        return WideAnswer::Refused(Refusal::Underflow);
+    }
+    let hi = h - k;
+    if hi < over {
+        return WideAnswer::Refused(Refusal::Underflow);
+    }
+    WideAnswer::Is(Wide { hi: hi - over, lo })
+}
+
+// The order of x and y.
+pub fn compare(x: Wide, y: Wide) -> Order
+    ensures { λ r. ⌜ r ≡ order (wide x) (wide y) ⌝ }
+{
+    if carry::below(x, y) {
+        return Order::Less;
+    }
+    if carry::below(y, x) {
+        return Order::Greater;
+    }
+    Order::Equal
+}
+
+// x * 2^n. From 64 on the low word moves up whole, and from 128 on only zero has room.
+pub fn shl(x: Wide, n: u32) -> WideAnswer
+    ensures { λ r. ⌜ r ≡ answer (wide x * 2 ^ n) ⌝ }
+{
+    let h = x.hi;
+    let l = x.lo;
+    if n < 64 {
+        return shift::up(h, l, n);
+    }
+    if 0 < h {
+        return WideAnswer::Refused(Refusal::Overflow);
+    }
+    if n < 128 {
+        return shift::up(l, 0, n - 64);
+    }
+    if 0 < l {
+        return WideAnswer::Refused(Refusal::Overflow);
+    }
+    WideAnswer::Is(x)
+}
+
+// x / 2^n, rounded down.
+pub fn shr(x: Wide, n: u32) -> Wide
+    ensures { λ r. ⌜ r ≡ words (wide x / 2 ^ n) ⌝ }
+{
+    Wide {
+        hi: shift::word_down(x.hi, n),
+        lo: shift::low_down(x.hi, x.lo, n),
+    }
+}
+
+// n by d, with remainder. A d of two words, of none and of one has each its own way.
+pub fn div(n: Wide, d: Wide) -> DivAnswer
+    ensures { λ r. ⌜ r ≡ division (wide n) (wide d) ⌝ }
+{
+    let hi = d.hi;
+    let lo = d.lo;
+    let h = n.hi;
+    let l = n.lo;
+    if 0 < hi {
+        let s = long::by_words(n, d);
+        let remainder = s.r;
+        return DivAnswer::Divided(Division {
+            quotient: Wide { hi: 0, lo: s.q },
+            remainder,
+        });
+    }
+    if lo == 0 {
+        return DivAnswer::Refused(Refusal::ZeroDivisor);
+    }
+    let s = short::by_word(h, l, lo);
+    DivAnswer::Divided(Division {
+        quotient: Wide {
+            hi: s.high,
+            lo: s.low,
+        },
+        remainder: Wide { hi: 0, lo: s.r },
+    })
 }

@@ -2,7 +2,8 @@
 use borrow.Author.Needs.{needs}
 use Prim.Native.Nat.{ℕ, _/_, _%_, _*_, _^_, _-_, _≤_, _<_}
 use native.Mathlib.Omega.{arith}
-use Rattle.wide.proofs.Laws.{half-product, halves-of, words-of}
+use Rattle.wide.proofs.Laws.{words-of}
+use Rattle.wide.proofs.Products.{half-product, by-half}
 use Rattle.wide.proofs.scaled.Statement.{statement}
 use Rattle.wide.proofs.scaled.Tie as tie
 
@@ -24,14 +25,8 @@ mul-high c = omega (arith, high c)
 add-high : tie.Need-add-high
 add-high c = omega (arith, low c, high c)
 
-mul-t9 : tie.Need-mul-t9
-mul-t9 c = search needs
-
-add-t11 : tie.Need-add-t11
-add-t11 c = search needs
-
 returns : tie.Need-returns
-returns c = words-of _ (omega arith) (omega (arith, halves-of (c .args .a) (c .args .b)))
+returns c = words-of _ (omega arith) (omega (arith, by-half (c .args .a) (c .args .b)))
 
 pub scaled-spec : {M : Type 1} → statement M
-scaled-spec = tie.close (tie.spec mul-low add-low mul-high add-high mul-t9 add-t11 returns)
+scaled-spec = tie.close (tie.spec mul-low add-low mul-high add-high (λ c. search needs) (λ c. search needs) returns)

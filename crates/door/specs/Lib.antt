@@ -1,0 +1,2 @@
+-- What the contracts of `door` cite.
+pub mod Door

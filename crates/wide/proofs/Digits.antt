@@ -1,0 +1,92 @@
+-- Two digits in a base B, and the same of two words. The base is a variable, since `omega` takes no number of more than 38 digits, and 2 ^ 128 has 39.
+-- Assumes nothing.
+use mathlib.Core.Path.{_≡_, refl, sym, ap}
+use mathlib.Core.Bool.{Bool, true, false}
+use Prim.Native.Nat.{ℕ, suc, _+_, _*_, _^_, _-_, _≤_, _<_}
+use native.Mathlib.Nat.{mul-le-mul-right, lt-of-not-le, not-le-of-lt, le-of-lt}
+use native.Mathlib.Omega.{arith}
+use lib.Arith.{lt-of-le-ne}
+use lib.Dec.{ltb}
+use borrow.Author.Tests.{lt-ltb, le-ltb, ltb-true, ltb-false}
+use Rattle.wide.specs.declared.Wide.{Wide}
+use Rattle.wide.specs.Wide.{wide}
+
+-- two tests that go the same way
+same-test : (a b : ℕ) {c d : ℕ} → (a < b → c < d) → (b ≤ a → d ≤ c) → ltb a b ≡ ltb c d
+same-test a b {c} {d} p q = go (ltb a b) refl
+  where
+    go : (t : Bool) → ltb a b ≡ t → t ≡ ltb c d
+    go true t = sym (lt-ltb c d (p (ltb-true a b t)))
+    go false t = sym (le-ltb c d (q (ltb-false a b t)))
+
+module _ (B : ℕ) where
+  -- the order of two numbers is that of their low digits where the high ones agree, and else that of the high ones
+  low-test : {h k : ℕ} (l m : ℕ) → h ≡ k → ltb l m ≡ ltb (h * B + l) (k * B + m)
+  low-test {h} {k} l m e = same-test l m {c = h * B + l} {d = k * B + m} (λ b. rw e (omega arith)) (λ b. rw e (omega arith))
+
+  high-lt : {h k l : ℕ} (m : ℕ) → l < B → h < k → h * B + l < k * B + m
+  high-lt m b e = omega (arith, mul-le-mul-right B e)
+
+  high-test : {h k l m : ℕ} → (h ≡ k → ⊥) → l < B → m < B → ltb h k ≡ ltb (h * B + l) (k * B + m)
+  high-test {h} {k} {l} {m} e a b = same-test h k (high-lt m a) (λ c. le-of-lt (high-lt l b (lt-of-le-ne c (λ z. e (sym z)))))
+
+  -- a sum: the low digits make w and a carry o
+  sum : (h l k m o w : ℕ) → o * B + w ≡ l + m → (h + k + o) * B + w ≡ (h * B + l) + (k * B + m)
+  sum h l k m o w e = omega arith
+
+  -- a difference: the low digits make w and a borrow o, and the high ones hold both or are too small
+  apart : (h l k m a o w : ℕ) → a + o + k ≡ h → w + m ≡ o * B + l → a * B + w + (k * B + m) ≡ h * B + l
+  apart h l k m a o w e d = omega (arith, ap (λ (z : ℕ). z * B) e)
+
+  short : (h l k m o w : ℕ) → h < k + o → w + m ≡ o * B + l → w < B → h * B + l < k * B + m
+  short h l k m o w e d b = omega (arith, mul-le-mul-right B e)
+
+  -- a product by one digit, and one of which both high digits are there
+  pub spread : (h l k : ℕ) → h * k * B + l * k ≡ (h * B + l) * k
+  spread h l k = omega arith
+
+  pub crossed : (h l k m : ℕ) → (h * k * B + (h * m + l * k)) * B + l * m ≡ (h * B + l) * (k * B + m)
+  crossed h l k m = omega arith
+
+module _ (x y : Wide) where
+  pub below-low : x .hi ≡ y .hi → ltb (x .lo) (y .lo) ≡ ltb (wide x) (wide y)
+  unfolding wide
+  below-low = low-test (2 ^ 64) (x .lo) (y .lo)
+
+  pub below-high : (x .hi ≡ y .hi → ⊥) → x .lo < 2 ^ 64 → y .lo < 2 ^ 64 → ltb (x .hi) (y .hi) ≡ ltb (wide x) (wide y)
+  unfolding wide
+  below-high = high-test (2 ^ 64)
+
+  pub plus-is : (o w : ℕ) → o * 2 ^ 64 + w ≡ x .lo + y .lo → (x .hi + y .hi + o) * 2 ^ 64 + w ≡ wide x + wide y
+  unfolding wide
+  plus-is = sum (2 ^ 64) (x .hi) (x .lo) (y .hi) (y .lo)
+
+  pub minus-is : (a o w : ℕ) → a + o + y .hi ≡ x .hi → w + y .lo ≡ o * 2 ^ 64 + x .lo → wide (record { hi = a; lo = w }) + wide y ≡ wide x
+  unfolding wide
+  minus-is = apart (2 ^ 64) (x .hi) (x .lo) (y .hi) (y .lo)
+
+  pub minus-short : (o w : ℕ) → x .hi < y .hi + o → w + y .lo ≡ o * 2 ^ 64 + x .lo → w < 2 ^ 64 → wide x < wide y
+  unfolding wide
+  minus-short = short (2 ^ 64) (x .hi) (x .lo) (y .hi) (y .lo)
+
+  pub minus-room : (o w : ℕ) → wide y ≤ wide x → w + y .lo ≡ o * 2 ^ 64 + x .lo → w < 2 ^ 64 → y .hi + o ≤ x .hi
+  minus-room o w h d b = let t : y .hi + o < suc (x .hi) = lt-of-not-le (λ g. not-le-of-lt (minus-short o w g d b) h) in omega arith
+
+-- what the tests of a sum and of a difference say of the high words h and k and what the low ones pass on, o. Each is by itself, since `omega` would
+-- else read what the low words are, and stop at its 38 digits
+pub passes : (h o : ℕ) → 2 ^ 64 - 1 - h < o → 2 ^ 64 ≤ h + o
+passes h o e = omega arith
+
+pub holds : (h o : ℕ) → h < 2 ^ 64 → o ≤ 2 ^ 64 - 1 - h → h + o < 2 ^ 64
+holds h o b e = omega arith
+
+pub lacks : (h k o : ℕ) → h - k < o → h < k + o
+lacks h k o e = omega arith
+
+pub leaves : (h k o : ℕ) → k ≤ h → o ≤ h - k → h - k - o + o + k ≡ h
+leaves h k o b e = omega arith
+
+-- a number of one word
+pub one-word : (x : Wide) → x .hi ≤ 0 → wide x ≡ x .lo
+unfolding wide
+one-word x z = omega arith
