@@ -1,5 +1,5 @@
 -- What the definitions answer for a duration, from its two fields. Assumes nothing.
-use mathlib.Core.Path.{_≡_, sym, ap, _∙_}
+use mathlib.Core.Path.{_≡_, refl, sym, ap, _∙_}
 use mathlib.Core.Bool.{Bool, false}
 use Prim.Native.Nat.{ℕ, _+_, _*_, _/_, _%_, _^_, _<_}
 use native.Mathlib.Nat.{add-mul-div-right, mul-assoc, add-comm}
@@ -8,8 +8,10 @@ use lib.Dec.{eqb}
 use borrow.Author.Tests.{ne-eqb}
 use Rattle.wide.specs.declared.Wide.{Wide}
 use Rattle.wide.specs.declared.Order.{Order}
+use Rattle.wide.specs.declared.Order.the-variants.{Less, Equal, Greater}
 use Rattle.wide.specs.declared.WideAnswer.the-variants as Wide
 use Rattle.wide.specs.Wide.{words, order}
+use Rattle.wide.proofs.Laws.{order-less, order-equal, order-greater, less-told, equal-told, greater-told}
 use Rattle.duration.specs.declared.Duration.{Duration}
 use Rattle.duration.specs.declared.WordAnswer.the-variants as Word
 use Rattle.duration.specs.declared.PartAnswer.the-variants as Part
@@ -40,6 +42,15 @@ zero-below s n e = let p : n ≡ s * 10 ^ 9 + n = omega arith in ap (λ (z : ℕ
 pub not-zero : (s n : ℕ) → (s ≡ 0 → ⊥) → false ≡ eqb (s * 10 ^ 9 + n) 0
 not-zero s n h = sym (ne-eqb (s * 10 ^ 9 + n) 0 (λ (e : s * 10 ^ 9 + n ≡ 0). h (omega arith)))
 
+-- the order of two durations is that of their words, seconds above nanoseconds
+order-same : (s n t m : ℕ) → n < 10 ^ 9 → m < 10 ^ 9 → order (s * 2 ^ 64 + n) (t * 2 ^ 64 + m) ≡ order (s * 10 ^ 9 + n) (t * 10 ^ 9 + m)
+order-same s n t m a b = go (order (s * 10 ^ 9 + n) (t * 10 ^ 9 + m)) refl
+  where
+    go : (o : Order) → o ≡ order (s * 10 ^ 9 + n) (t * 10 ^ 9 + m) → order (s * 2 ^ 64 + n) (t * 2 ^ 64 + m) ≡ o
+    go Less e = let h = less-told _ _ e in sym (order-less _ _ (omega arith))
+    go Equal e = let h = equal-told _ _ e in sym (order-equal _ _ (omega arith))
+    go Greater e = let h = greater-told _ _ e in sym (order-greater _ _ (omega arith))
+
 module _ (d : Duration) (good : d .nanos < 10 ^ 9) where
   pub secs-is : Word.Is (d .secs) ≡ asSecs d
   unfolding asSecs
@@ -58,6 +69,6 @@ module _ (d : Duration) (good : d .nanos < 10 ^ 9) where
   unfolding isZero
   zero-is e = rw (is-valid d good) (ap Flag.Is e)
 
-  pub order-is : (e : Duration) {o : Order} → e .nanos < 10 ^ 9 → o ≡ order (N d) (N e) → Order.Is o ≡ compared d e
+  pub order-is : (e : Duration) {o : Order} → e .nanos < 10 ^ 9 → o ≡ order (d .secs * 2 ^ 64 + d .nanos) (e .secs * 2 ^ 64 + e .nanos) → Order.Is o ≡ compared d e
   unfolding compared
-  order-is e h p = rw (is-valid d good, is-valid e h) (ap Order.Is p)
+  order-is e h p = rw (is-valid d good, is-valid e h) (ap Order.Is (p ∙ order-same (d .secs) (d .nanos) (e .secs) (e .nanos) good h))

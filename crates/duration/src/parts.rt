@@ -5,7 +5,7 @@ use crate::OrderAnswer;
 use crate::PartAnswer;
 use crate::WordAnswer;
 use refusal::Refusal;
-use wide::Order;
+use wide::Wide;
 use wide::WideAnswer;
 ghost use mathlib.Core.Path.{_≡_};
 ghost use Prim.Native.Nat.{_^_};
@@ -86,7 +86,7 @@ pub fn is_zero(d: Duration) -> FlagAnswer
     FlagAnswer::Is(false)
 }
 
-// The order of two durations, Rust's `cmp`.
+// The order of two durations, Rust's `cmp`. Of valid pairs it is that of two words, seconds above nanoseconds.
 pub fn cmp(a: Duration, b: Duration) -> OrderAnswer
     ensures { λ r. ⌜ r ≡ compared a b ⌝ }
 {
@@ -96,17 +96,13 @@ pub fn cmp(a: Duration, b: Duration) -> OrderAnswer
     if 1_000_000_000 <= b.nanos {
         return OrderAnswer::Refused(Refusal::BadDuration);
     }
-    if a.secs < b.secs {
-        return OrderAnswer::Is(Order::Less);
-    }
-    if b.secs < a.secs {
-        return OrderAnswer::Is(Order::Greater);
-    }
-    if a.nanos < b.nanos {
-        return OrderAnswer::Is(Order::Less);
-    }
-    if b.nanos < a.nanos {
-        return OrderAnswer::Is(Order::Greater);
-    }
-    OrderAnswer::Is(Order::Equal)
+    let x = Wide {
+        hi: a.secs,
+        lo: a.nanos as u64,
+    };
+    let y = Wide {
+        hi: b.secs,
+        lo: b.nanos as u64,
+    };
+    OrderAnswer::Is(wide::compare(x, y))
 }
