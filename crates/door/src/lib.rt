@@ -11,7 +11,7 @@ ghost use Rattle.wide.specs.Wide.{wide, words, answer, difference, order, divis
 ghost use Rattle.door.specs.Door.{pair, ofWide, ofAnswer, ofOrder, ofDivision, Gives};
 
 // What a call writes, or why it writes nothing.
-pub enum Reply {
+enum Reply {
     Four(u64, u64, u64, u64),
     Refused(Refusal),
 }

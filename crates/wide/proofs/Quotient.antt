@@ -1,14 +1,13 @@
 -- Laws of the division of two-word numbers. Assumes nothing.
 use mathlib.Core.Path.{_≡_, sym, ap, _∙_}
 use Prim.Native.Nat.{ℕ, suc, _+_, _*_, _/_, _%_, _^_, _≤_, _<_, _-_}
-use native.Mathlib.Nat.{div-add-mod', mod-lt, mul-le-mul-right, div-lt-iff-lt-mul, lt-of-mul-lt-mul-right, lt-of-le-of-lt, lt-of-lt-of-le, lt-trans, le-of-lt, mod-eq-of-lt}
+use native.Mathlib.Nat.{div-add-mod', mod-lt, mul-le-mul-right, div-lt-iff-lt-mul, lt-of-lt-of-le, lt-trans, mod-eq-of-lt}
 use native.Mathlib.Omega.{arith}
 use lib.Arith.{digits-lt}
 use lib.Dec.{lit<}
 use lib.Pow.{pow-add, pow-pos}
 use lib.Count.{leadingZeros, leading-top}
 use Rattle.wide.specs.declared.Wide.{Wide}
-use Rattle.wide.specs.declared.Division.{Division}
 use Rattle.wide.specs.declared.DivAnswer.the-variants.{Divided}
 use Rattle.wide.specs.Wide.{wide, words, division}
 use Rattle.wide.proofs.Laws.{wide-words, wide-lt, division-is}
@@ -73,31 +72,31 @@ near-words x d n m k e pos bh bl few en em =
     let q : m ≡ wide d / 2 ^ k = em ∙ mod-eq-of-lt (lt-trans (t .0) (lit< tt)) in
     rw (p, q) (t .0, t .2)
 
--- where the quotient of n by a d of two words is one digit
-pub few-high : (n d : Wide) → n .hi < 2 ^ 32 → n .lo < 2 ^ 64 → 0 < d .hi → wide n < wide d * 2 ^ 32
-unfolding wide
-few-high n d h b pos = omega arith
-
--- 2 ^ 128 is too large for `omega`, so 2 ^ 32 is a variable
-few-digits : (H h l k m : ℕ) → h < H * H → l < H * H → H ≤ k → h * (H * H) + l < (k * (H * H) + m) * H
-few-digits H h l k m a b c = omega (arith, mul-le-mul-right (H * H) a, mul-le-mul-right (H * H * H) c)
-
-pub few-low : (n d : Wide) → n .hi < 2 ^ 64 → n .lo < 2 ^ 64 → 2 ^ 32 ≤ d .hi → wide n < wide d * 2 ^ 32
-unfolding wide
-few-low n d = few-digits (2 ^ 32) (n .hi) (n .lo) (d .hi) (d .lo)
+-- The quotient of n by a d of two words is one digit where n / 2 ^ 32 is below d
+pub one-digit : (n d w : Wide) → w ≡ words (wide n / 2 ^ 32) → wide w < wide d → wide n < wide d * 2 ^ 32
+one-digit n d w e h = div-lt-iff-lt-mul {k = 2 ^ 32} {x = wide n} {y = wide d} (pow-pos 32) .0 (rw (ap wide e ∙ wide-words (wide n / 2 ^ 32)) at h)
 
 high-le : (d : Wide) → 0 < d .hi → 2 ^ 96 ≤ wide d * 2 ^ 32
 unfolding wide
 high-le d pos = omega arith
 
--- the first of two digits divides n without its last 32 bits
-pub few-shifted : (n d w : Wide) → n .hi < 2 ^ 64 → n .lo < 2 ^ 64 → 0 < d .hi → w ≡ words (wide n / 2 ^ 32) → wide w < wide d * 2 ^ 32
-few-shifted n d w a b pos e = rw (ap wide e ∙ wide-words (wide n / 2 ^ 32)) (lt-of-lt-of-le (div-lt-iff-lt-mul {k = 2 ^ 32} {x = wide n} {y = 2 ^ 96} (pow-pos 32) .1 (wide-lt n a b)) (high-le d pos))
+-- else two, of which the first divides n / 2 ^ 32
+above-lt : (n w : Wide) → n .hi < 2 ^ 64 → n .lo < 2 ^ 64 → w ≡ words (wide n / 2 ^ 32) → wide w < 2 ^ 96
+above-lt n w a b e = rw (ap wide e ∙ wide-words (wide n / 2 ^ 32)) (div-lt-iff-lt-mul {k = 2 ^ 32} {x = wide n} {y = 2 ^ 96} (pow-pos 32) .1 (wide-lt n a b))
 
--- and leaves room for them
-pub rest-high : (r d : Wide) → wide r < wide d → d .lo < 2 ^ 64 → d .hi < 2 ^ 32 → r .hi < 2 ^ 32
+pub first-few : (n d w : Wide) → n .hi < 2 ^ 64 → n .lo < 2 ^ 64 → 0 < d .hi → w ≡ words (wide n / 2 ^ 32) → wide w < wide d * 2 ^ 32
+first-few n d w a b pos e = lt-of-lt-of-le (above-lt n w a b e) (high-le d pos)
+
+-- and what it leaves has room for the last 32 bits
+high-lt : (r m : ℕ) (d : Wide) → wide d ≤ m → m < 2 ^ 96 → r < wide d → r < 2 ^ 96
+high-lt r m d a b c = omega arith
+
+high-half : (r : Wide) → wide r < 2 ^ 96 → r .hi < 2 ^ 32
 unfolding wide
-rest-high r d h b t = omega arith
+high-half r h = omega arith
+
+pub rest-high : (n d w r : Wide) → n .hi < 2 ^ 64 → n .lo < 2 ^ 64 → w ≡ words (wide n / 2 ^ 32) → wide d ≤ wide w → wide r < wide d → r .hi < 2 ^ 32
+rest-high n d w r a b e h g = high-half r (high-lt (wide r) (wide w) d h (above-lt n w a b e) g)
 
 low-half : (n : Wide) → wide n % 2 ^ 32 ≡ n .lo % 2 ^ 32
 unfolding wide

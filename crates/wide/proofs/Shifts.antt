@@ -1,15 +1,15 @@
 -- Laws of shifts. Assumes nothing.
-use mathlib.Core.Path.{_≡_, refl, sym, ap, _∙_}
+use mathlib.Core.Path.{_≡_, sym, ap, _∙_}
 use Prim.Native.Nat.{ℕ, _+_, _*_, _/_, _%_, _^_, _≤_, _<_, _-_}
-use native.Mathlib.Nat.{div-add-mod', mul-le-mul-right, le-trans, add-comm, mul-comm, one-mul, mod-lt, lt-of-le-of-lt, lt-of-lt-of-le, add-sub-of-le, add-mul-div-right, mul-div-cancel, mul-mod-left, mod-eq-of-lt, div-lt-iff-lt-mul, le-div-iff-mul-le, div-one, div-eq-of-lt, le-of-lt}
+use native.Mathlib.Nat.{div-add-mod', mul-le-mul-right, le-trans, add-comm, mul-comm, one-mul, mod-lt, lt-of-le-of-lt, lt-of-lt-of-le, add-sub-of-le, add-mul-div-right, mul-div-cancel, mul-mod-left, mod-eq-of-lt, div-lt-iff-lt-mul, le-div-iff-mul-le, div-one, div-eq-of-lt}
 use native.Mathlib.Omega.{arith}
 use lib.Arith.{digits-lt, mod-mul}
 use lib.Pow.{pow-pos, pow-mono, pow-add, shl-exact, shr-shr, shr-le, high, low}
 use Rattle.refusal.specs.declared.Refusal.the-variants.{Overflow}
 use Rattle.wide.specs.declared.Wide.{Wide}
 use Rattle.wide.specs.declared.WideAnswer.the-variants.{Is, Refused}
-use Rattle.wide.specs.Wide.{wide, words, answer}
-use Rattle.wide.proofs.Laws.{words-of, answer-is, wide-lt}
+use Rattle.wide.specs.Wide.{wide, answer}
+use Rattle.wide.proofs.Laws.{answer-is}
 use Rattle.wide.proofs.Products.{scale-over}
 
 -- `1 << n` at 64 bits

@@ -1,6 +1,7 @@
 // Division by two words: the quotient is one word, of one or two digits of 32 bits.
 use super::Wide;
 use super::WideAnswer;
+use super::carry::below;
 use super::carry::minus;
 use super::shift::low_down;
 ghost use mathlib.Core.Path.{_≡_};
@@ -67,21 +68,17 @@ fn append(r: Wide, l: u64) -> Wide
     }
 }
 
-// n by d: one digit, unless n has 2^96 or more and d less.
+// n by d: one digit where what n has above its last 32 bits is below d, and else two.
 pub fn by_words(n: Wide, d: Wide) -> Step
     requires { ⌜ 0 < d .hi ⌝ }
     ensures { λ s. ⌜ (s .q * wide d + wide (s .r) ≡ wide n) × (wide (s .r) < wide d) ⌝ }
 {
-    let top = n.hi;
     let last = n.lo % HALF;
-    let high = d.hi;
-    if top < HALF {
+    let above = super::shr(n, 32);
+    if below(above, d) {
         return digit(n, d);
     }
-    if HALF <= high {
-        return digit(n, d);
-    }
-    let x = digit(super::shr(n, 32), d);
+    let x = digit(above, d);
     let q = x.q;
     let rest = x.r;
     let y = digit(append(rest, last), d);

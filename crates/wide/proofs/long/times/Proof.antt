@@ -23,15 +23,9 @@ mul-t5 c = omega (arith, at (c .before .before .before))
 add-t6 : tie.Need-add-t6
 add-t6 c = omega (arith, at (c .before .before .before))
 
-mul-t9 : tie.Need-mul-t9
-mul-t9 c = search needs
-
-add-t11 : tie.Need-add-t11
-add-t11 c = search needs
-
 returns : tie.Need-returns
 returns c = digit-is _ _
 
 pub times-spec : {M : Type 1} → statement M
 times-spec =
-    tie.close (tie.spec mul-low mul-middle add-middle mul-t5 add-t6 mul-t9 add-t11 returns)
+    tie.close (tie.spec mul-low mul-middle add-middle mul-t5 add-t6 (λ c. search needs) (λ c. search needs) returns)

@@ -10,26 +10,14 @@ use Rattle.wide.proofs.short.estimate.Tie as tie
 at : (c : tie.Start) → Estimate (c .args .h * 2 ^ 32 + c .args .l) (c .args .d) (c .args .p) (c .args .h * c .args .up + c .args .l / c .args .p) (c .args .l % c .args .p)
 at c = estimate-word _ _ _ _ _ (c .pre .0) (c .pre .1) (c .pre .2) (c .pre .3) (c .pre .4)
 
-div-m : tie.Need-div-m
-div-m c = search needs
-
 add-m : tie.Need-add-m
 add-m c = omega (arith, at c .units)
 
 mul-n : tie.Need-mul-n
 mul-n c = omega (arith, at c .size)
 
-div-n : tie.Need-div-n
-div-n c = search needs
-
 add-n : tie.Need-add-n
 add-n c = omega (arith, at c .size)
-
-div-q : tie.Need-div-q
-div-q c = search needs
-
-rem-a : tie.Need-rem-a
-rem-a c = search needs
 
 sub-a : tie.Need-sub-a
 sub-a c = omega (arith, at c .room)
@@ -37,14 +25,8 @@ sub-a c = omega (arith, at c .room)
 mul-a : tie.Need-mul-a
 mul-a c = omega (arith, at c .added, unit-le _ _ (c .pre .0))
 
-rem-b : tie.Need-rem-b
-rem-b c = search needs
-
 mul-b : tie.Need-mul-b
 mul-b c = omega (arith, at c .left, unit-le _ _ (c .pre .0))
-
-rem-b-2 : tie.Need-rem-b-2
-rem-b-2 c = search needs
 
 add-b : tie.Need-add-b
 add-b c = omega (arith, at c .left, unit-le _ _ (c .pre .0))
@@ -59,18 +41,18 @@ pub estimate-spec : {M : Type 1} → statement M
 estimate-spec =
     tie.close
     (tie.spec
-    div-m
+    (λ c. search needs)
     add-m
     mul-n
-    div-n
+    (λ c. search needs)
     add-n
-    div-q
-    rem-a
+    (λ c. search needs)
+    (λ c. search needs)
     sub-a
     mul-a
-    rem-b
+    (λ c. search needs)
     mul-b
-    rem-b-2
+    (λ c. search needs)
     add-b
     settle-requires
     returns)

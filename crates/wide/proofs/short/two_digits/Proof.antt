@@ -14,12 +14,6 @@ first c = quotient-lt _ _ _ _ _ (c .next .ensures .0) (digits-lt (c .before .pre
 second : (c : tie.After-next2) → c .next2 .result .q < 2 ^ 32
 second c = quotient-lt _ _ _ _ _ (c .next2 .ensures .0) (digits-lt (c .before .next .ensures .1) (omega arith))
 
-next-requires : tie.Need-next-requires
-next-requires c κs = search needs
-
-next-requires-2 : tie.Need-next-requires-2
-next-requires-2 c κs = search needs
-
 mul-t6 : tie.Need-mul-t6
 mul-t6 c = omega (arith, first (c .before .before))
 
@@ -30,4 +24,4 @@ returns : tie.Need-returns
 returns c = (two-digits-are _ _ _ _ _ _ _ (c .before .before .before .next .ensures .0) (c .before .before .next2 .ensures .0), c .before .before .next2 .ensures .1)
 
 pub two-digits-spec : {M : Type 1} → statement M
-two-digits-spec = tie.close (tie.spec next-requires next-requires-2 mul-t6 add-t7 returns)
+two-digits-spec = tie.close (tie.spec (λ c κs. search needs) (λ c κs. search needs) mul-t6 add-t7 returns)
