@@ -17,6 +17,10 @@
  *     zero or not            1 or 0 in the first byte, 15 zeros
  *     order                  0 less, 1 equal, 2 greater in the first byte, 15 zeros
  *
+ * List.  Rows lie in two runs of bytes: the seconds, 8 bytes a row, and the
+ * nanoseconds, 4 bytes a row, both little-endian and at any address. The lengths
+ * are in bytes; `first` and `end` count rows, and the row `end` is left out.
+ *
  * Refusal.  A refused call changes nothing: no byte of `out` is written.
  *
  * Input.  Any numbers and any length are answered. No call traps, allocates or
@@ -140,6 +144,45 @@ uint32_t salt_is_zero(uint64_t secs, uint32_t nanos, uint8_t *out, size_t len);
 
 /* The first duration against the second: 0 less, 1 equal, 2 greater (first byte). */
 uint32_t salt_cmp(uint64_t secs, uint32_t nanos, uint64_t secs2, uint32_t nanos2, uint8_t *out, size_t len);
+
+/* ---- Arithmetic: the answer is a duration. ---- */
+
+/* The first and the second together; SALT_OVERFLOW above the longest duration. */
+uint32_t salt_checked_add(uint64_t secs, uint32_t nanos, uint64_t secs2, uint32_t nanos2, uint8_t *out, size_t len);
+
+/* The first and the second together, at most the longest duration. */
+uint32_t salt_saturating_add(uint64_t secs, uint32_t nanos, uint64_t secs2, uint32_t nanos2, uint8_t *out, size_t len);
+
+/* The first less the second; SALT_UNDERFLOW below zero. */
+uint32_t salt_checked_sub(uint64_t secs, uint32_t nanos, uint64_t secs2, uint32_t nanos2, uint8_t *out, size_t len);
+
+/* The first less the second, at least zero. */
+uint32_t salt_saturating_sub(uint64_t secs, uint32_t nanos, uint64_t secs2, uint32_t nanos2, uint8_t *out, size_t len);
+
+/* The longer of the two less the shorter. */
+uint32_t salt_abs_diff(uint64_t secs, uint32_t nanos, uint64_t secs2, uint32_t nanos2, uint8_t *out, size_t len);
+
+/* The duration times the factor; SALT_OVERFLOW above the longest duration. */
+uint32_t salt_checked_mul(uint64_t secs, uint32_t nanos, uint32_t factor, uint8_t *out, size_t len);
+
+/* The duration times the factor, at most the longest duration. */
+uint32_t salt_saturating_mul(uint64_t secs, uint32_t nanos, uint32_t factor, uint8_t *out, size_t len);
+
+/* The duration over the divisor, floored to a nanosecond; SALT_ZERO_DIVISOR for 0. */
+uint32_t salt_checked_div(uint64_t secs, uint32_t nanos, uint32_t divisor, uint8_t *out, size_t len);
+
+/* ---- One duration over another: the answer is a wide count. ---- */
+
+/* How often the second goes into the first, floored; SALT_ZERO_DIVISOR where the second is zero. */
+uint32_t salt_div_duration_floor(uint64_t secs, uint32_t nanos, uint64_t secs2, uint32_t nanos2, uint8_t *out, size_t len);
+
+/* The same, rounded up to the next whole number. */
+uint32_t salt_div_duration_ceil(uint64_t secs, uint32_t nanos, uint64_t secs2, uint32_t nanos2, uint8_t *out, size_t len);
+
+/* ---- The sum of a list: the answer is a duration. ---- */
+
+/* The rows from first up to end together, exactly; zero for an empty range. SALT_BAD_RANGE, then SALT_BAD_ROW anywhere in the range, then SALT_OVERFLOW. */
+uint32_t salt_sum(const uint8_t *secs, size_t secs_len, const uint8_t *nanos, size_t nanos_len, uint64_t first, uint64_t end, uint8_t *out, size_t len);
 
 #ifdef __cplusplus
 }

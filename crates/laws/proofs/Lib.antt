@@ -1,2 +1,3 @@
 -- Laws that several crates cite.
 pub mod Bytes
+pub mod Decoded

@@ -14,6 +14,8 @@ use Rattle.wide.specs.declared.WideAnswer.{WideAnswer}
 use Rattle.wide.specs.declared.WideAnswer.the-variants as Wide
 use Rattle.duration.specs.declared.Answer.{Answer}
 use Rattle.duration.specs.declared.Answer.the-variants as Duration
+use Rattle.sums.specs.declared.SumAnswer.{SumAnswer}
+use Rattle.sums.specs.declared.SumAnswer.the-variants as Sum
 use Rattle.duration.specs.declared.WordAnswer.{WordAnswer}
 use Rattle.duration.specs.declared.WordAnswer.the-variants as Word
 use Rattle.duration.specs.declared.PartAnswer.{PartAnswer}
@@ -44,6 +46,11 @@ pub record Replied (before after : List ℕ) (a : Reply) (n : ℕ) : Type 0 wher
 abbrev pub ofDuration : Answer → Reply
 ofDuration (Duration.Is d) = Words (d .secs) (d .nanos)
 ofDuration (Duration.Refused r) = Refused r
+
+-- a sum: a duration likewise
+abbrev pub ofSum : SumAnswer → Reply
+ofSum (Sum.Is d) = Words (d .secs) (d .nanos)
+ofSum (Sum.Refused r) = Refused r
 
 -- a wide count: the low word first
 abbrev pub ofWide : WideAnswer → Reply

@@ -5,6 +5,7 @@ use duration::OrderAnswer;
 use duration::PartAnswer;
 use duration::WordAnswer;
 use refusal::Refusal;
+use sums::SumAnswer;
 use wide::Order;
 use wide::WideAnswer;
 ghost use mathlib.Core.Path.{_≡_};
@@ -12,7 +13,7 @@ ghost use mathlib.Core.List.{_++_};
 ghost use Prim.Native.Nat.{_≤_};
 ghost use lib.ListN.{length, drop};
 ghost use Rattle.laws.specs.Bytes.{littleEndian};
-ghost use Rattle.saltribbon.specs.Reply.{Replied, ofDuration, ofWide, ofWord, ofPart, ofFlag, placeOf, ofOrder};
+ghost use Rattle.saltribbon.specs.Reply.{Replied, ofDuration, ofSum, ofWide, ofWord, ofPart, ofFlag, placeOf, ofOrder};
 
 // What every function but the text's hands back.
 pub enum Reply {
@@ -65,6 +66,15 @@ pub fn of_duration(a: Answer) -> Reply
     match a {
         Answer::Is(d) => Reply::Words(d.secs, d.nanos as u64),
         Answer::Refused(r) => Reply::Refused(r),
+    }
+}
+
+pub fn of_sum(a: SumAnswer) -> Reply
+    ensures { λ r. ⌜ r ≡ ofSum a ⌝ }
+{
+    match a {
+        SumAnswer::Is(d) => Reply::Words(d.secs, d.nanos as u64),
+        SumAnswer::Refused(r) => Reply::Refused(r),
     }
 }
 

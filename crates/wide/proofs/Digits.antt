@@ -21,13 +21,13 @@ same-test a b {c} {d} p q = go (ltb a b) refl
 
 module _ (B : ℕ) where
   -- the order of two numbers is that of their low digits where the high ones agree, and else that of the high ones
-  low-test : {h k : ℕ} (l m : ℕ) → h ≡ k → ltb l m ≡ ltb (h * B + l) (k * B + m)
+  pub low-test : {h k : ℕ} (l m : ℕ) → h ≡ k → ltb l m ≡ ltb (h * B + l) (k * B + m)
   low-test {h} {k} l m e = same-test l m {c = h * B + l} {d = k * B + m} (λ b. rw e (omega arith)) (λ b. rw e (omega arith))
 
   high-lt : {h k l : ℕ} (m : ℕ) → l < B → h < k → h * B + l < k * B + m
   high-lt m b e = omega (arith, mul-le-mul-right B e)
 
-  high-test : {h k l m : ℕ} → (h ≡ k → ⊥) → l < B → m < B → ltb h k ≡ ltb (h * B + l) (k * B + m)
+  pub high-test : {h k l m : ℕ} → (h ≡ k → ⊥) → l < B → m < B → ltb h k ≡ ltb (h * B + l) (k * B + m)
   high-test {h} {k} {l} {m} e a b = same-test h k (high-lt m a) (λ c. le-of-lt (high-lt l b (lt-of-le-ne c (λ z. e (sym z)))))
 
   -- a sum: the low digits make w and a carry o

@@ -1,6 +1,6 @@
--- The laws of this crate. `Laws` is what another crate's proofs cite, and the others are for the functions here.
+-- The laws of this crate. `Laws` and `Digits` are what other crates' proofs cite, and the rest are for the functions here.
 pub mod Laws
-mod Digits
+pub mod Digits
 mod Products
 mod Shifts
 mod Estimate

@@ -17,7 +17,7 @@ pub struct Step {
     pub r: Wide,
 }
 
-// q * d, for a q of half a word: two products where `widening_mul` has four.
+// q * d, for a q of half a word: column by column, with the carries.
 fn times(q: u64, d: Wide) -> Wide
     requires { ⌜ (q < 2 ^ 32) × (q * wide d < 2 ^ 128) ⌝ }
     ensures { λ r. ⌜ wide r ≡ q * wide d ⌝ }

@@ -12,6 +12,12 @@ pub struct Inputs {
     pub wides: Vec<[u64; 4]>,
     pub pairs: Vec<[u64; 4]>,
     pub two_pairs: Vec<[u64; 4]>,
+    pub addends: Vec<[u64; 4]>,
+    pub differences: Vec<[u64; 4]>,
+    pub ratios: Vec<[u64; 4]>,
+    pub products: Vec<[u64; 4]>,
+    pub divisions: Vec<[u64; 4]>,
+    pub lists: Vec<[u64; 4]>,
 }
 
 impl Inputs {
@@ -23,12 +29,40 @@ impl Inputs {
             wides: wides(&mut rng),
             pairs: pairs(&mut rng),
             two_pairs: two_pairs(&mut rng),
+            addends: addends(&mut rng),
+            differences: differences(&mut rng),
+            ratios: ratios(&mut rng),
+            products: products(&mut rng),
+            divisions: divisions(&mut rng),
+            lists: lists(),
         }
     }
 }
 
-fn two(words: (u64, u64)) -> [u64; 4] {
+type Pair = (u64, u64);
+
+const LONGEST: Pair = (u64::MAX, GIGA - 1);
+
+fn two(words: Pair) -> [u64; 4] {
     [words.0, words.1, 0, 0]
+}
+
+fn three((d, by): (Pair, u64)) -> [u64; 4] {
+    [d.0, d.1, by, 0]
+}
+
+fn four((a, b): (Pair, Pair)) -> [u64; 4] {
+    [a.0, a.1, b.0, b.1]
+}
+
+fn good(rng: &mut Rng) -> Pair {
+    (rng.word_of_any_length(), rng.below(GIGA))
+}
+
+/// Two durations of which one or both are bad.
+fn bad_pairs() -> [(Pair, Pair); 4] {
+    let (bad, worse) = ((0, GIGA), (u64::MAX, u64::from(u32::MAX)));
+    [(bad, (1, 0)), ((1, 0), bad), (LONGEST, worse), (worse, bad)]
 }
 
 /// Seconds and nanoseconds with a carry: none, one, up to four, and the last that fits.
@@ -105,7 +139,186 @@ fn two_pairs(rng: &mut Rng) -> Vec<[u64; 4]> {
             (first, (first.0, second.1)),
         ]);
     }
-    rows.into_iter()
-        .map(|(a, b)| [a.0, a.1, b.0, b.1])
-        .collect()
+    rows.into_iter().map(four).collect()
+}
+
+/// Sums that fit, carry, reach the longest duration, and go one nanosecond over; one or both bad.
+fn addends(rng: &mut Rng) -> Vec<[u64; 4]> {
+    let mut rows = vec![
+        ((0, 0), (0, 0)),
+        ((0, GIGA - 1), (0, 1)),
+        ((0, GIGA - 1), (0, GIGA - 1)),
+        ((1, GIGA / 2), (1, GIGA / 2)),
+        ((u64::MAX, 0), (0, GIGA - 1)),
+        ((u64::MAX, 1), (0, GIGA - 1)),
+        ((u64::MAX - 1, GIGA - 1), (1, 0)),
+        ((u64::MAX - 1, GIGA - 1), (0, 1)),
+        ((u64::MAX - 1, GIGA - 1), (1, 1)),
+        ((u64::MAX, 0), (1, 0)),
+        (LONGEST, (0, 0)),
+        (LONGEST, (0, 1)),
+        (LONGEST, LONGEST),
+        ((0, 0), LONGEST),
+        ((1 << 63, 0), (1 << 63, 0)),
+        ((1 << 63, 0), ((1 << 63) - 1, GIGA - 1)),
+    ];
+    rows.extend(bad_pairs());
+    rows.extend((0..8).map(|_| (good(rng), good(rng))));
+    rows.into_iter().map(four).collect()
+}
+
+/// Differences above zero, at it, one nanosecond below, with and without a borrow; one or both bad.
+fn differences(rng: &mut Rng) -> Vec<[u64; 4]> {
+    let mut rows = vec![
+        ((0, 0), (0, 0)),
+        ((0, 0), (0, 1)),
+        ((0, 1), (0, 0)),
+        ((1, 0), (0, 1)),
+        ((1, 0), (1, 0)),
+        ((1, 0), (1, 1)),
+        ((2, 1), (1, 2)),
+        ((5, GIGA - 1), (4, 0)),
+        ((1 << 32, 0), (0, GIGA - 1)),
+        (LONGEST, LONGEST),
+        (LONGEST, (0, 0)),
+        (LONGEST, (u64::MAX, GIGA - 2)),
+        ((u64::MAX, 0), (u64::MAX, GIGA - 1)),
+        ((0, 0), LONGEST),
+    ];
+    rows.extend(bad_pairs());
+    for _ in 0..4 {
+        let (first, second) = (good(rng), good(rng));
+        rows.extend([(first, second), (second, first)]);
+    }
+    rows.into_iter().map(four).collect()
+}
+
+/// One over another: 1 s over 300 ms, exact quotients and their neighbours, wide ones, zero divisors, bad ones.
+fn ratios(rng: &mut Rng) -> Vec<[u64; 4]> {
+    let mut rows = vec![
+        ((1, 0), (0, 300_000_000)),
+        ((0, 0), (0, 1)),
+        ((0, 0), LONGEST),
+        ((0, 1), (0, 2)),
+        ((2, 0), (1, 1)),
+        ((2, 0), (1, 0)),
+        ((2, 0), (0, GIGA - 1)),
+        (LONGEST, (0, 1)),
+        (LONGEST, (0, 2)),
+        (LONGEST, (1, 0)),
+        (LONGEST, (1 << 32, 0)),
+        (LONGEST, (u64::MAX, GIGA - 2)),
+        (LONGEST, LONGEST),
+        ((u64::MAX, 0), LONGEST),
+        ((18_446_744_073, 709_551_615), (0, 3)),
+        ((18_446_744_073, 709_551_616), (18_446_744_073, 709_551_615)),
+        ((0, 0), (0, 0)),
+        (LONGEST, (0, 0)),
+        ((0, GIGA), (0, 0)),
+    ];
+    rows.extend(bad_pairs());
+    for _ in 0..4 {
+        let (secs, nanos) = good(rng);
+        rows.extend([(good(rng), (secs, nanos)), ((secs, nanos), (0, nanos))]);
+    }
+    rows.into_iter().map(four).collect()
+}
+
+/// Factors: none, one, the last that fits and the next, and with a bad duration.
+fn products(rng: &mut Rng) -> Vec<[u64; 4]> {
+    let last = u64::from(u32::MAX);
+    let mut rows = vec![
+        ((0, 0), 0),
+        ((0, 0), last),
+        (LONGEST, 0),
+        (LONGEST, 1),
+        (LONGEST, 2),
+        ((0, 1), last),
+        ((0, GIGA - 1), last),
+        ((1, GIGA / 2), 2),
+        ((1, GIGA / 2), 3),
+        ((u64::MAX / 3, 333_333_333), 3),
+        ((u64::MAX / 3, 333_333_334), 3),
+        ((u64::MAX / 2, GIGA / 2), 2),
+        ((u64::MAX / 2, GIGA - 1), 2),
+        ((1 << 63, 0), 2),
+        ((1 << 32, 0), last),
+        ((1 << 32, GIGA - 1), last),
+        (((1 << 32) + 1, 0), last),
+        (((1 << 32) + 1, 1), last),
+        ((0, GIGA), 0),
+        ((0, GIGA), 1),
+        ((u64::MAX, last), last),
+    ];
+    rows.extend((0..8).map(|_| {
+        let (secs, nanos) = good(rng);
+        ((secs >> 16, nanos), rng.below(1 << 20))
+    }));
+    rows.into_iter().map(three).collect()
+}
+
+/// Divisors: 1 s over 3, one, zero, far ones, and zero with a bad duration.
+fn divisions(rng: &mut Rng) -> Vec<[u64; 4]> {
+    let last = u64::from(u32::MAX);
+    let mut rows = vec![
+        ((1, 0), 3),
+        ((2, 0), 3),
+        ((0, 0), 1),
+        ((0, 0), last),
+        ((0, 1), 1),
+        ((0, 1), 2),
+        ((0, 3), 2),
+        (LONGEST, 1),
+        (LONGEST, 2),
+        (LONGEST, 3),
+        (LONGEST, 7),
+        (LONGEST, 1_000_000_000),
+        (LONGEST, last),
+        ((last, 0), last),
+        ((last, 0), last - 1),
+        ((4, 294_967_294), last),
+        ((4, 294_967_295), last),
+        ((0, 0), 0),
+        (LONGEST, 0),
+        ((0, GIGA), 0),
+        ((u64::MAX, last), 7),
+    ];
+    rows.extend((0..10).map(|_| (good(rng), (rng.word_of_any_length() >> 32).max(1))));
+    rows.into_iter().map(three).collect()
+}
+
+/// Lists by rule, each the first row's seconds, the step, the count and the first row's nanoseconds.
+fn lists() -> Vec<[u64; 4]> {
+    vec![
+        [0, 0, 0, 0],
+        [7, 0, 0, 5],
+        [0, 0, 1, 0],
+        [u64::MAX, 0, 1, GIGA - 1],
+        [5, 3, 2, 0],
+        [5, 3, 10, 999_900_000],
+        [0, 1, 64, 0],
+        [0, 0, 64, GIGA - 1],
+        [0, 0, 64, GIGA - 504_000],
+        [1_000, u64::MAX, 64, 123_456_789],
+        [u64::MAX, 1, 2, 0],
+        [u64::MAX, 1, 3, GIGA - 7_919],
+        [u64::MAX, 1, 64, 0],
+        [1 << 63, 0, 2, 0],
+        [1 << 63, 1 << 63, 2, 0],
+        [1 << 63, u64::MAX, 2, 0],
+        [1 << 63, u64::MAX, 2, 999_996_040],
+        [1 << 63, u64::MAX, 2, 499_996_040],
+        [1 << 63, u64::MAX, 2, 499_996_041],
+        [1 << 62, 0, 3, 0],
+        [1 << 62, 0, 4, 0],
+        [1 << 58, 0, 63, 0],
+        [1 << 58, 0, 64, 0],
+        [(1 << 58) - 1, 0, 64, 999_999_000],
+        [(1 << 58) - 1, 2, 33, 999_999_000],
+        [u64::MAX / 64, 0, 64, 0],
+        [u64::MAX / 64, 0, 64, 999_000_000],
+        [u64::MAX / 2, 0, 64, 0],
+        [1, 86_400, 31, 250_000_000],
+        [0x0123_4567_89AB_CDEF, 0x0FED_CBA9_8765_4321, 7, 42],
+    ]
 }

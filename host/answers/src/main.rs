@@ -2,6 +2,8 @@
 //!
 //! A row is eight numbers of 16 hex digits, one space between them: the function's number, four arguments (unused ones are 0),
 //! the number it must return, and its sixteen bytes as two words, the low one first (both 0 where it refuses).
+//!
+//! The sum, 29, has a list by rule: `c` rows, row i of (a + i * b) mod 2^64 seconds and (d + i * 7919) mod 10^9 nanoseconds.
 
 mod inputs;
 
@@ -54,6 +56,22 @@ fn list(out: impl Write) -> io::Result<()> {
     list.unary(17, &inputs.pairs, salt::is_zero)?;
 
     list.binary(18, &inputs.two_pairs, salt::cmp)?;
+
+    list.binary(19, &inputs.addends, salt::checked_add)?;
+    list.binary(20, &inputs.addends, salt::saturating_add)?;
+    list.binary(21, &inputs.differences, salt::checked_sub)?;
+    list.binary(22, &inputs.differences, salt::saturating_sub)?;
+    list.binary(23, &inputs.differences, salt::abs_diff)?;
+    list.binary(24, &inputs.ratios, |a, b| {
+        salt::div_duration_floor(a, b, true)
+    })?;
+    list.binary(25, &inputs.ratios, |a, b| {
+        salt::div_duration_ceil(a, b, true)
+    })?;
+    list.scaled(26, &inputs.products, salt::checked_mul)?;
+    list.scaled(27, &inputs.products, salt::saturating_mul)?;
+    list.scaled(28, &inputs.divisions, salt::checked_div)?;
+    list.rows(29, &inputs.lists, by_rule)?;
     list.out.flush()
 }
 
@@ -108,4 +126,24 @@ impl<W: Write> List<W> {
             judge(lent(secs, nanos as u32)?, lent(secs2, nanos2 as u32)?)
         })
     }
+
+    fn scaled(
+        &mut self,
+        function: u64,
+        inputs: &[[u64; 4]],
+        judge: fn(Duration, u32) -> Answer,
+    ) -> io::Result<()> {
+        self.rows(function, inputs, |[secs, nanos, by, _]| {
+            judge(lent(secs, nanos as u32)?, by as u32)
+        })
+    }
+}
+
+/// The sum of all rows of a list by rule.
+fn by_rule([a, b, c, d]: [u64; 4]) -> Answer {
+    let secs = |i: u64| a.wrapping_add(i.wrapping_mul(b)).to_le_bytes();
+    let nanos = |i: u64| (((d + i * 7_919) % 1_000_000_000) as u32).to_le_bytes();
+    let secs: Vec<u8> = (0..c).flat_map(secs).collect();
+    let nanos: Vec<u8> = (0..c).flat_map(nanos).collect();
+    salt::sum(&secs, &nanos, 0, c, true)
 }

@@ -15,9 +15,9 @@ pub struct Clock {
 
 impl Clock {
     pub fn new(only: String, source: &str) -> Clock {
-        println!("Rust: {source}; best of {ROUNDS} rounds over {INPUTS} inputs; only the ratio is a claim");
+        println!("Rust: {source}; best of {ROUNDS} rounds over up to {INPUTS} inputs; only the ratio is a claim");
         println!(
-            "{:<28} {:>9} {:>9} {:>6}",
+            "{:<36} {:>9} {:>9} {:>6}",
             "row", "ours ns", "Rust's ns", "ratio"
         );
         Clock { rows: 0, only }
@@ -32,11 +32,24 @@ impl Clock {
         ours: impl Fn(&I, &mut B) -> u32,
         rust: impl Fn(&I, &mut B) -> u32,
     ) {
+        self.row_of(INPUTS, name, input, buffer, ours, rust);
+    }
+
+    /// The same with so many inputs, for rows whose inputs are large.
+    pub fn row_of<I, B: Clone + PartialEq>(
+        &mut self,
+        count: usize,
+        name: &str,
+        input: impl Fn(&mut Rng) -> I,
+        buffer: B,
+        ours: impl Fn(&I, &mut B) -> u32,
+        rust: impl Fn(&I, &mut B) -> u32,
+    ) {
         if !name.contains(&self.only) {
             return;
         }
         let mut rng = Rng::named(1, name);
-        let inputs: Vec<I> = (0..INPUTS).map(|_| input(&mut rng)).collect();
+        let inputs: Vec<I> = (0..count).map(|_| input(&mut rng)).collect();
         for (at, input) in inputs.iter().enumerate() {
             let (mut a, mut b) = (buffer.clone(), buffer.clone());
             let agree = ours(input, &mut a) == rust(input, &mut b) && a == b;
@@ -50,9 +63,9 @@ impl Clock {
             best[0] = best[0].min(round(&inputs, &mut out, repeats, &ours));
             best[1] = best[1].min(round(&inputs, &mut out, repeats, &rust));
         }
-        let calls = f64::from(repeats) * INPUTS as f64;
+        let calls = f64::from(repeats) * count as f64;
         let [a, b] = best.map(|time| time.as_secs_f64() * 1e9 / calls);
-        println!("{name:<28} {a:>9.2} {b:>9.2} {:>6.2}", a / b);
+        println!("{name:<36} {a:>9.2} {b:>9.2} {:>6.2}", a / b);
         self.rows += 1;
     }
 }

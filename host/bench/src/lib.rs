@@ -1,9 +1,10 @@
 //! The Rust behind the same kind of boundary: C functions of our signatures, in a crate of their own so that nothing crosses the call.
 
-#![feature(duration_constants, duration_constructors)]
+#![feature(duration_constants, duration_constructors, duration_integer_division)]
 
 use oracle::Duration;
 use std::cmp::Ordering;
+use std::slice::from_raw_parts as slice;
 
 /// Two words for the sixteen bytes, or a refusal.
 type Words = Result<(u64, u64), u32>;
@@ -53,6 +54,23 @@ fn unit(count: u64, unit: u32) -> Result<Duration, u32> {
     })
 }
 
+/// A pair as a divisor: the Rust panics for zero, a caller looks first.
+#[inline]
+fn divisor(secs: u64, nanos: u32) -> Result<Duration, u32> {
+    let d = lent(secs, nanos)?;
+    if d.is_zero() {
+        Err(5)
+    } else {
+        Ok(d)
+    }
+}
+
+/// The Rust's sum panics above the longest duration; no row of the benchmark goes there.
+#[inline]
+fn total(rows: impl Iterator<Item = Duration>) -> (u64, u64) {
+    duration(rows.sum())
+}
+
 #[inline]
 fn wide(low: u64, high: u64) -> u128 {
     u128::from(high) << 64 | u128::from(low)
@@ -61,7 +79,8 @@ fn wide(low: u64, high: u64) -> u128 {
 macro_rules! boundary {
     ($($name:ident($($arg:ident: $ty:ty),*) = $words:expr;)*) => {$(
         /// # Safety
-        /// `out` and `len` are those of one slice that nobody else holds.
+        /// A pointer and the length after it are those of one slice; nobody else holds the last one.
+        #[allow(improper_ctypes_definitions)] // A `Duration` stays behind its pointer.
         #[inline(never)]
         pub unsafe extern "C" fn $name($($arg: $ty,)* out: *mut u8, len: usize) -> u32 {
             let words = || -> Words { Ok($words) };
@@ -101,6 +120,32 @@ boundary! {
     is_zero(secs: u64, nanos: u32) = small(lent(secs, nanos)?.is_zero());
 
     cmp(secs: u64, nanos: u32, secs2: u64, nanos2: u32) = order(lent(secs, nanos)?.cmp(&lent(secs2, nanos2)?));
+
+    checked_add(secs: u64, nanos: u32, secs2: u64, nanos2: u32) =
+        duration(lent(secs, nanos)?.checked_add(lent(secs2, nanos2)?).ok_or(3u32)?);
+    saturating_add(secs: u64, nanos: u32, secs2: u64, nanos2: u32) =
+        duration(lent(secs, nanos)?.saturating_add(lent(secs2, nanos2)?));
+    checked_sub(secs: u64, nanos: u32, secs2: u64, nanos2: u32) =
+        duration(lent(secs, nanos)?.checked_sub(lent(secs2, nanos2)?).ok_or(4u32)?);
+    saturating_sub(secs: u64, nanos: u32, secs2: u64, nanos2: u32) =
+        duration(lent(secs, nanos)?.saturating_sub(lent(secs2, nanos2)?));
+    abs_diff(secs: u64, nanos: u32, secs2: u64, nanos2: u32) =
+        duration(lent(secs, nanos)?.abs_diff(lent(secs2, nanos2)?));
+    div_duration_floor(secs: u64, nanos: u32, secs2: u64, nanos2: u32) =
+        count(lent(secs, nanos)?.div_duration_floor(divisor(secs2, nanos2)?));
+    div_duration_ceil(secs: u64, nanos: u32, secs2: u64, nanos2: u32) =
+        count(lent(secs, nanos)?.div_duration_ceil(divisor(secs2, nanos2)?));
+
+    checked_mul(secs: u64, nanos: u32, factor: u32) =
+        duration(lent(secs, nanos)?.checked_mul(factor).ok_or(3u32)?);
+    saturating_mul(secs: u64, nanos: u32, factor: u32) =
+        duration(lent(secs, nanos)?.saturating_mul(factor));
+    checked_div(secs: u64, nanos: u32, divisor: u32) =
+        duration(lent(secs, nanos)?.checked_div(divisor).ok_or(5u32)?);
+
+    sum(rows: *const Duration, rows_len: usize) = total(slice(rows, rows_len).iter().copied());
+    sum_zipped(secs: *const u64, secs_len: usize, nanos: *const u32, nanos_len: usize) =
+        total(slice(secs, secs_len).iter().zip(slice(nanos, nanos_len)).map(|(s, n)| Duration::new(*s, *n)));
 }
 
 /// Two-word arithmetic by Rust's u128.

@@ -2,6 +2,7 @@
 //!
 //! `bench [--only NAME]`: `--only` runs the rows whose name holds NAME.
 
+mod arithmetic;
 mod clock;
 
 use clock::Clock;
@@ -23,6 +24,8 @@ macro_rules! salt {
         )
     };
 }
+
+use salt;
 
 macro_rules! door {
     ($clock:ident, $row:expr, $inputs:expr, $name:ident($($arg:ident),*)) => {
@@ -86,6 +89,11 @@ fn good_pair(r: &mut Rng) -> (u64, u32) {
     (r.word_of_any_length(), r.below(GIGA) as u32)
 }
 
+fn two_pairs(r: &mut Rng) -> (u64, u32, u64, u32) {
+    let ((a, b), (x, y)) = (good_pair(r), good_pair(r));
+    (a, b, x, y)
+}
+
 fn main() {
     let mut args = std::env::args().skip(1);
     let only = match (args.next().as_deref(), args.next(), args.next()) {
@@ -104,6 +112,7 @@ fn main() {
     constructors(&mut clock);
     constants(&mut clock);
     parts(&mut clock);
+    arithmetic::rows(&mut clock);
     two_words(&mut clock);
     if clock.rows == 0 {
         eprintln!("no row has that name: leave out --only to run all");
@@ -155,11 +164,7 @@ fn parts(c: &mut Clock) {
     salt!(c, "as_micros", good_pair, as_micros(secs, nanos));
     salt!(c, "as_nanos", good_pair, as_nanos(secs, nanos));
     salt!(c, "is_zero", good_pair, is_zero(secs, nanos));
-    let apart = |r: &mut Rng| {
-        let ((a, b), (x, y)) = (good_pair(r), good_pair(r));
-        (a, b, x, y)
-    };
-    salt!(c, "cmp", apart, cmp(secs, nanos, secs2, nanos2));
+    salt!(c, "cmp", two_pairs, cmp(secs, nanos, secs2, nanos2));
     let close = |r: &mut Rng| {
         let (secs, nanos) = good_pair(r);
         (secs, nanos, secs, r.below(GIGA) as u32)

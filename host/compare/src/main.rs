@@ -5,6 +5,7 @@
 mod options;
 mod shapes;
 mod suites;
+mod sums;
 mod trial;
 mod wrapper;
 
@@ -36,7 +37,7 @@ fn main() -> ExitCode {
         let (cases, panics) = (trial.cases, trial.panics());
         let count = usize::from(outcome.is_err());
         println!(
-            "{:<22} {cases:>9} cases {panics:>7} panics met {count} differences",
+            "{:<24} {cases:>9} cases {panics:>7} panics met {count} differences",
             suite.name
         );
         if let Err(difference) = outcome {

@@ -4,10 +4,14 @@ use judge::{edges, Rng};
 
 const GIGA: u64 = 1_000_000_000;
 
+/// Seconds and nanoseconds, good or bad.
+pub type Pair = (u64, u32);
+
 pub struct Shapes {
     pub words: Vec<u64>,
     pub nanos: Vec<u32>,
     pub units: Vec<u32>,
+    pub factors: Vec<u32>,
     pub wides: Vec<u128>,
     pub shifts: Vec<u32>,
 }
@@ -18,6 +22,7 @@ impl Shapes {
             words: edges::words(),
             nanos: edges::nanos(),
             units: edges::units(),
+            factors: edges::factors(),
             wides: edges::wides(),
             shifts: edges::shifts(),
         }
@@ -56,12 +61,12 @@ impl Shapes {
         }
     }
 
-    pub fn pair(&self, rng: &mut Rng) -> (u64, u32) {
+    pub fn pair(&self, rng: &mut Rng) -> Pair {
         (self.word(rng), self.nanos(rng))
     }
 
     /// For a function that carries: one in eight is about to go over.
-    pub fn carry(&self, rng: &mut Rng) -> (u64, u32) {
+    pub fn carry(&self, rng: &mut Rng) -> Pair {
         match rng.below(8) {
             0 => (u64::MAX - rng.below(6), rng.word() as u32),
             1 => (self.word(rng), rng.word() as u32),
@@ -70,7 +75,7 @@ impl Shapes {
     }
 
     /// The second is often the first again, or close to it.
-    pub fn two_pairs(&self, rng: &mut Rng) -> ((u64, u32), (u64, u32)) {
+    pub fn two_pairs(&self, rng: &mut Rng) -> (Pair, Pair) {
         let (secs, nanos) = self.pair(rng);
         let second = match rng.below(8) {
             0 => (secs, nanos),
@@ -81,6 +86,53 @@ impl Shapes {
             _ => self.pair(rng),
         };
         ((secs, nanos), second)
+    }
+
+    /// Two whose sum is often the longest duration, or next to it.
+    pub fn addends(&self, rng: &mut Rng) -> (Pair, Pair) {
+        if rng.below(4) > 0 {
+            return self.two_pairs(rng);
+        }
+        let first = u128::from(self.word(rng)) * u128::from(GIGA) + u128::from(rng.below(GIGA));
+        (
+            of_nanos(first),
+            of_nanos(about(edges::MAX_NANOS - first, rng)),
+        )
+    }
+
+    /// The first is often a multiple of the second, or next to one; the second is zero now and then.
+    pub fn ratio(&self, rng: &mut Rng) -> (Pair, Pair) {
+        let divisor = (rng.wide() >> 34).checked_shr(rng.below(94) as u32);
+        let divisor = divisor.unwrap_or(0).min(edges::MAX_NANOS);
+        let nanos = match rng.below(8) {
+            0 => return (self.pair(rng), (0, 0)),
+            1 | 2 => return self.two_pairs(rng),
+            3 => rng.word_of_any_length().into(),
+            4 => rng.wide() >> 34,
+            _ => about(divisor * u128::from(rng.word_of_any_length() >> 30), rng),
+        };
+        (of_nanos(nanos), of_nanos(divisor))
+    }
+
+    pub fn factor(&self, rng: &mut Rng) -> u32 {
+        match rng.below(8) {
+            0 | 1 => rng.pick(&self.factors),
+            2 | 3 => rng.below(100) as u32,
+            4 => rng.word() as u32,
+            _ => (rng.word_of_any_length() >> 32) as u32,
+        }
+    }
+
+    /// The duration is often the longest that the factor leaves in range, or a multiple of it, or next to one.
+    pub fn scaled(&self, rng: &mut Rng) -> (Pair, u32) {
+        let factor = self.factor(rng);
+        let whole = u128::from(factor.max(1));
+        let pair = match rng.below(4) {
+            0 => of_nanos(about(edges::MAX_NANOS / whole, rng)),
+            1 => of_nanos(about(whole * u128::from(rng.word_of_any_length()), rng)),
+            _ => self.pair(rng),
+        };
+        (pair, factor)
     }
 
     /// A count that suits the unit: below its limit, at it, or anything.
@@ -153,6 +205,17 @@ impl Shapes {
         };
         (x, n)
     }
+}
+
+/// At most two more or two less.
+fn about(n: u128, rng: &mut Rng) -> u128 {
+    (n + u128::from(rng.below(5))).saturating_sub(2)
+}
+
+/// The duration of that many nanoseconds, or the longest.
+pub fn of_nanos(nanos: u128) -> Pair {
+    let (nanos, giga) = (nanos.min(edges::MAX_NANOS), u128::from(GIGA));
+    ((nanos / giga) as u64, (nanos % giga) as u32)
 }
 
 /// Sixteen bits at a time all zeros, all ones, one end bit, or random.

@@ -2,7 +2,7 @@
 
 use crate::shapes::Shapes;
 use crate::trial::{Outcome, Trial};
-use crate::wrapper;
+use crate::{sums, wrapper};
 use judge::edges::cross;
 use judge::{salt, wide};
 use saltribbon::raw;
@@ -34,6 +34,8 @@ const fn suite(
 pub fn all() -> Vec<Suite> {
     let mut suites = two_words();
     suites.extend(constructors_and_parts());
+    suites.extend(arithmetic());
+    suites.push(suite("salt_sum", &[0, 3, 6, 7, 9], 2_000, sums::run));
     suites.push(suite("wrapper", &[], 0, wrapper::run));
     suites
 }
@@ -144,7 +146,60 @@ fn constructors_and_parts() -> Vec<Suite> {
             t.unary(raw::is_zero, salt::is_zero)
         }),
         suite("salt_cmp", &[0, 9, 10], 0, |t| {
-            t.binary(raw::cmp, salt::cmp)
+            t.binary(Shapes::two_pairs, raw::cmp, |a, b, _| salt::cmp(a, b))
+        }),
+    ]
+}
+
+fn arithmetic() -> Vec<Suite> {
+    vec![
+        suite("salt_checked_add", &[0, 3, 9, 10], 0, |t| {
+            t.binary(Shapes::addends, raw::checked_add, |a, b, _| {
+                salt::checked_add(a, b)
+            })
+        }),
+        suite("salt_saturating_add", &[0, 9, 10], 0, |t| {
+            t.binary(Shapes::addends, raw::saturating_add, |a, b, _| {
+                salt::saturating_add(a, b)
+            })
+        }),
+        suite("salt_checked_sub", &[0, 4, 9, 10], 0, |t| {
+            t.binary(Shapes::two_pairs, raw::checked_sub, |a, b, _| {
+                salt::checked_sub(a, b)
+            })
+        }),
+        suite("salt_saturating_sub", &[0, 9, 10], 0, |t| {
+            t.binary(Shapes::two_pairs, raw::saturating_sub, |a, b, _| {
+                salt::saturating_sub(a, b)
+            })
+        }),
+        suite("salt_abs_diff", &[0, 9, 10], 0, |t| {
+            t.binary(Shapes::two_pairs, raw::abs_diff, |a, b, _| {
+                salt::abs_diff(a, b)
+            })
+        }),
+        suite("salt_div_duration_floor", &[0, 5, 9, 10], 2_000, |t| {
+            t.binary(
+                Shapes::ratio,
+                raw::div_duration_floor,
+                salt::div_duration_floor,
+            )
+        }),
+        suite("salt_div_duration_ceil", &[0, 5, 9, 10], 2_000, |t| {
+            t.binary(
+                Shapes::ratio,
+                raw::div_duration_ceil,
+                salt::div_duration_ceil,
+            )
+        }),
+        suite("salt_checked_mul", &[0, 3, 9, 10], 0, |t| {
+            t.scaled(raw::checked_mul, salt::checked_mul)
+        }),
+        suite("salt_saturating_mul", &[0, 9, 10], 0, |t| {
+            t.scaled(raw::saturating_mul, salt::saturating_mul)
+        }),
+        suite("salt_checked_div", &[0, 5, 9, 10], 0, |t| {
+            t.scaled(raw::checked_div, salt::checked_div)
         }),
     ]
 }

@@ -1,7 +1,7 @@
 //! One suite at work: the drivers that make the cases, and the comparison of a single case.
 
 use crate::options::Options;
-use crate::shapes::Shapes;
+use crate::shapes::{Pair, Shapes};
 use crate::suites::Suite;
 use judge::edges::{cross, few_nanos, few_words};
 use judge::wide::Words;
@@ -104,8 +104,26 @@ impl<'a> Trial<'a> {
         Ok(())
     }
 
+    /// The lengths that are lent at every edge.
+    pub fn lengths(&self) -> Vec<usize> {
+        if self.quick {
+            vec![0, 15, 16, LONGEST]
+        } else {
+            (0..=LONGEST).collect()
+        }
+    }
+
+    /// A random length, most often the one that is just enough.
+    pub fn length(&mut self) -> usize {
+        match self.rng.below(4) {
+            0 => self.rng.below(LONGEST as u64 + 1) as usize,
+            1 => 16 + self.rng.below(LONGEST as u64 - 15) as usize,
+            _ => 16,
+        }
+    }
+
     /// One call with `length` lent bytes between guards: the number and every byte must be as expected.
-    fn case<I: Debug>(
+    pub fn case<I: Debug>(
         &mut self,
         input: I,
         want: Answer,
@@ -153,11 +171,7 @@ impl<'a> Trial<'a> {
         call: impl Fn(I, &mut [u8]) -> u32,
         judge: impl Fn(I, bool) -> Answer,
     ) -> Outcome {
-        let lengths: Vec<usize> = if self.quick {
-            vec![0, 15, 16, LONGEST]
-        } else {
-            (0..=LONGEST).collect()
-        };
+        let lengths = self.lengths();
         for input in edges {
             let want = judge(input, true);
             for &length in &lengths {
@@ -167,11 +181,7 @@ impl<'a> Trial<'a> {
         for turn in 0..self.share(2_000_000) {
             let input = random(self.shapes, &mut self.rng);
             let want = judge(input, turn % WATCH == 0);
-            let length = match self.rng.below(4) {
-                0 => self.rng.below(LONGEST as u64 + 1) as usize,
-                1 => 16 + self.rng.below(LONGEST as u64 - 15) as usize,
-                _ => 16,
-            };
+            let length = self.length();
             self.case(input, want, length, |out| call(input, out))?;
         }
         Ok(())
@@ -242,15 +252,31 @@ impl<'a> Trial<'a> {
     /// Two durations, each good or bad.
     pub fn binary(
         &mut self,
+        random: fn(&Shapes, &mut Rng) -> (Pair, Pair),
         call: fn(u64, u32, u64, u32, &mut [u8]) -> u32,
-        judge: fn(Duration, Duration) -> Answer,
+        judge: impl Fn(Duration, Duration, bool) -> Answer,
     ) -> Outcome {
         let few = cross(&few_words(), &few_nanos());
         self.each(
             cross(&few, &few),
-            Shapes::two_pairs,
+            random,
             |(a, b), out| call(a.0, a.1, b.0, b.1, out),
-            |(a, b), _| judge(lent(a.0, a.1)?, lent(b.0, b.1)?),
+            |(a, b), watch| judge(lent(a.0, a.1)?, lent(b.0, b.1)?, watch),
+        )
+    }
+
+    /// A duration, good or bad, and a 32-bit factor or divisor.
+    pub fn scaled(
+        &mut self,
+        call: fn(u64, u32, u32, &mut [u8]) -> u32,
+        judge: fn(Duration, u32) -> Answer,
+    ) -> Outcome {
+        let few = cross(&few_words(), &few_nanos());
+        self.each(
+            cross(&few, &self.shapes.factors),
+            Shapes::scaled,
+            |(d, by), out| call(d.0, d.1, by, out),
+            |(d, by), _| judge(lent(d.0, d.1)?, by),
         )
     }
 

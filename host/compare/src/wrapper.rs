@@ -53,6 +53,9 @@ pub fn run(trial: &mut Trial) -> Outcome {
         );
         let raw = asked(|out| raw::cmp(secs, nanos, secs2, nanos2, out));
         same(trial, "cmp", (a, b), of(a.cmp(b), Image::image), raw)?;
+        arithmetic(trial, a, b)?;
+        scaled(trial, a)?;
+        sum(trial)?;
     }
     Ok(())
 }
@@ -179,4 +182,60 @@ fn parts(trial: &mut Trial, d: Duration) -> Outcome {
     one("as_micros", of(d.as_micros(), Image::image), raw::as_micros)?;
     one("as_nanos", of(d.as_nanos(), Image::image), raw::as_nanos)?;
     one("is_zero", of(d.is_zero(), Image::image), raw::is_zero)
+}
+
+fn arithmetic(trial: &mut Trial, a: Duration, b: Duration) -> Outcome {
+    let mut one = |name, wrapper, call: fn(u64, u32, u64, u32, &mut [u8]) -> u32| {
+        let raw = asked(|out| call(a.secs, a.nanos, b.secs, b.nanos, out));
+        same(trial, name, (a, b), wrapper, raw)
+    };
+    one("checked_add", of(a.checked_add(b), bytes), raw::checked_add)?;
+    one(
+        "saturating_add",
+        of(a.saturating_add(b), bytes),
+        raw::saturating_add,
+    )?;
+    one("checked_sub", of(a.checked_sub(b), bytes), raw::checked_sub)?;
+    one(
+        "saturating_sub",
+        of(a.saturating_sub(b), bytes),
+        raw::saturating_sub,
+    )?;
+    one("abs_diff", of(a.abs_diff(b), bytes), raw::abs_diff)?;
+    one(
+        "div_duration_floor",
+        of(a.div_duration_floor(b), Image::image),
+        raw::div_duration_floor,
+    )?;
+    one(
+        "div_duration_ceil",
+        of(a.div_duration_ceil(b), Image::image),
+        raw::div_duration_ceil,
+    )
+}
+
+fn scaled(trial: &mut Trial, d: Duration) -> Outcome {
+    let by = trial.shapes.factor(&mut trial.rng);
+    let mut one = |name, answer, call: fn(u64, u32, u32, &mut [u8]) -> u32| {
+        let raw = asked(|out| call(d.secs, d.nanos, by, out));
+        same(trial, name, (d, by), of(answer, bytes), raw)
+    };
+    one("checked_mul", d.checked_mul(by), raw::checked_mul)?;
+    one("saturating_mul", d.saturating_mul(by), raw::saturating_mul)?;
+    one("checked_div", d.checked_div(by), raw::checked_div)
+}
+
+/// Numbers in the wrapper, the same numbers as bytes in the raw function.
+fn sum(trial: &mut Trial) -> Outcome {
+    let count = trial.rng.below(6);
+    let rows = (0..count).map(|_| trial.shapes.pair(&mut trial.rng));
+    let (secs, nanos): (Vec<u64>, Vec<u32>) = rows.unzip();
+    let (first, end) = (trial.rng.below(count + 1), trial.rng.below(count + 2));
+    let (secs_bytes, nanos_bytes): (Vec<u8>, Vec<u8>) = (
+        secs.iter().flat_map(|n| n.to_le_bytes()).collect(),
+        nanos.iter().flat_map(|n| n.to_le_bytes()).collect(),
+    );
+    let raw = asked(|out| raw::sum(&secs_bytes, &nanos_bytes, first, end, out));
+    let answer = of(Duration::sum(&secs, &nanos, first..end), bytes);
+    same(trial, "sum", (secs, nanos, first..end), answer, raw)
 }

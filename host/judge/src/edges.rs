@@ -27,6 +27,12 @@ fn near(list: impl IntoIterator<Item = u64>) -> Vec<u64> {
     sorted(list.into_iter().flat_map(around).flatten().collect())
 }
 
+/// The same for 32-bit numbers.
+fn halves(list: impl IntoIterator<Item = u64>) -> Vec<u32> {
+    let fits = |n: u64| u32::try_from(n).ok();
+    near(list).into_iter().filter_map(fits).collect()
+}
+
 /// Whole seconds and counts: powers of two and ten, multiples of 10^3, 10^6 and 10^9, each unit's limit, the far end.
 pub fn words() -> Vec<u64> {
     let twos = (0..64).map(|k| 1 << k);
@@ -62,17 +68,21 @@ pub fn nanos() -> Vec<u32> {
         999_999_000,
     ];
     let carries = (1..5).map(|k| k * 1_000_000_000);
-    let all = near(
+    halves(
         marks
             .into_iter()
             .chain(twos)
             .chain(tens)
             .chain(carries)
             .chain([u32::MAX.into()]),
-    );
-    all.into_iter()
-        .filter_map(|n| u32::try_from(n).ok())
-        .collect()
+    )
+}
+
+/// Factors and divisors: powers of two and ten, and the far end.
+pub fn factors() -> Vec<u32> {
+    let twos = (0..32).map(|k| 1 << k);
+    let tens = (0..10).map(|k| 10u64.pow(k));
+    halves(twos.chain(tens).chain([u32::MAX.into()]))
 }
 
 /// Unit numbers: each good one, the first bad ones, and bad ones whose low bytes look good.

@@ -1,7 +1,8 @@
 //! The expected answer of each salt function. One that makes the Rust panic takes `watch`: meet the panic, or foresee it.
 
 use crate::panics::or_panic;
-use crate::{edges, Answer, Image, BAD_UNIT, OVERFLOW};
+use crate::{edges, lent, Answer, Image, BAD_RANGE, BAD_ROW, BAD_UNIT};
+use crate::{OVERFLOW, UNDERFLOW, ZERO_DIVISOR};
 use oracle::Duration;
 
 pub const SECOND: Duration = Duration::SECOND;
@@ -75,4 +76,63 @@ pub fn is_zero(d: Duration) -> Answer {
 
 pub fn cmp(a: Duration, b: Duration) -> Answer {
     Ok(a.cmp(&b).image())
+}
+
+pub fn checked_add(a: Duration, b: Duration) -> Answer {
+    a.checked_add(b).map(Image::image).ok_or(OVERFLOW)
+}
+
+pub fn saturating_add(a: Duration, b: Duration) -> Answer {
+    Ok(a.saturating_add(b).image())
+}
+
+pub fn checked_sub(a: Duration, b: Duration) -> Answer {
+    a.checked_sub(b).map(Image::image).ok_or(UNDERFLOW)
+}
+
+pub fn saturating_sub(a: Duration, b: Duration) -> Answer {
+    Ok(a.saturating_sub(b).image())
+}
+
+pub fn abs_diff(a: Duration, b: Duration) -> Answer {
+    Ok(a.abs_diff(b).image())
+}
+
+pub fn div_duration_floor(a: Duration, b: Duration, watch: bool) -> Answer {
+    or_panic(ZERO_DIVISOR, b.is_zero(), watch, || a.div_duration_floor(b))
+}
+
+pub fn div_duration_ceil(a: Duration, b: Duration, watch: bool) -> Answer {
+    or_panic(ZERO_DIVISOR, b.is_zero(), watch, || a.div_duration_ceil(b))
+}
+
+pub fn checked_mul(d: Duration, factor: u32) -> Answer {
+    d.checked_mul(factor).map(Image::image).ok_or(OVERFLOW)
+}
+
+pub fn saturating_mul(d: Duration, factor: u32) -> Answer {
+    Ok(d.saturating_mul(factor).image())
+}
+
+pub fn checked_div(d: Duration, divisor: u32) -> Answer {
+    d.checked_div(divisor).map(Image::image).ok_or(ZERO_DIVISOR)
+}
+
+/// The rows lie as bytes. The table decides range and rows, the Rust's `iter().sum()` the rest.
+pub fn sum(secs: &[u8], nanos: &[u8], first: u64, end: u64, watch: bool) -> Answer {
+    let ((secs, part), (nanos, part2)) = (secs.as_chunks(), nanos.as_chunks());
+    let whole = part.is_empty() && part2.is_empty() && secs.len() == nanos.len();
+    if !whole || first > end || end > secs.len() as u64 {
+        return Err(BAD_RANGE);
+    }
+    let rows = first as usize..end as usize;
+    let rows = secs[rows.clone()].iter().zip(&nanos[rows]);
+    let rows: Result<Vec<Duration>, u32> = rows
+        .map(|(s, n)| lent(u64::from_le_bytes(*s), u32::from_le_bytes(*n)))
+        .collect();
+    let rows = rows.map_err(|_| BAD_ROW)?;
+    let total: u128 = rows.iter().map(Duration::as_nanos).sum();
+    or_panic(OVERFLOW, total > edges::MAX_NANOS, watch, || {
+        rows.iter().sum::<Duration>()
+    })
 }

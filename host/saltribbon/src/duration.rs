@@ -2,6 +2,7 @@
 
 use crate::{raw, Refusal};
 use std::cmp::Ordering;
+use std::ops::Range;
 
 /// Whole seconds and nanoseconds. Any pair may be built; with nanoseconds of 10^9 or more every question is `BadDuration`.
 #[derive(Copy, Clone, Debug, PartialEq, Eq)]
@@ -153,5 +154,74 @@ impl Duration {
     pub fn cmp(self, other: Duration) -> Result<Ordering, Refusal> {
         ask(|out| raw::cmp(self.secs, self.nanos, other.secs, other.nanos, out))
             .map(|words| words.cmp(&1))
+    }
+}
+
+/// Integer arithmetic, exact. `Overflow` above the longest duration, unless the name says that it saturates.
+impl Duration {
+    pub fn checked_add(self, other: Duration) -> Result<Duration, Refusal> {
+        self.with(other, raw::checked_add)
+    }
+
+    /// At most the longest duration.
+    pub fn saturating_add(self, other: Duration) -> Result<Duration, Refusal> {
+        self.with(other, raw::saturating_add)
+    }
+
+    /// `Underflow` below zero.
+    pub fn checked_sub(self, other: Duration) -> Result<Duration, Refusal> {
+        self.with(other, raw::checked_sub)
+    }
+
+    /// At least zero.
+    pub fn saturating_sub(self, other: Duration) -> Result<Duration, Refusal> {
+        self.with(other, raw::saturating_sub)
+    }
+
+    pub fn abs_diff(self, other: Duration) -> Result<Duration, Refusal> {
+        self.with(other, raw::abs_diff)
+    }
+
+    pub fn checked_mul(self, factor: u32) -> Result<Duration, Refusal> {
+        ask_duration(|out| raw::checked_mul(self.secs, self.nanos, factor, out))
+    }
+
+    /// At most the longest duration.
+    pub fn saturating_mul(self, factor: u32) -> Result<Duration, Refusal> {
+        ask_duration(|out| raw::saturating_mul(self.secs, self.nanos, factor, out))
+    }
+
+    /// Floored to a nanosecond.
+    pub fn checked_div(self, divisor: u32) -> Result<Duration, Refusal> {
+        ask_duration(|out| raw::checked_div(self.secs, self.nanos, divisor, out))
+    }
+
+    /// How often the other goes into this one, whole times only.
+    pub fn div_duration_floor(self, other: Duration) -> Result<u128, Refusal> {
+        ask(|out| raw::div_duration_floor(self.secs, self.nanos, other.secs, other.nanos, out))
+    }
+
+    /// The same, rounded up.
+    pub fn div_duration_ceil(self, other: Duration) -> Result<u128, Refusal> {
+        ask(|out| raw::div_duration_ceil(self.secs, self.nanos, other.secs, other.nanos, out))
+    }
+
+    fn with(
+        self,
+        other: Duration,
+        call: fn(u64, u32, u64, u32, &mut [u8]) -> u32,
+    ) -> Result<Duration, Refusal> {
+        ask_duration(|out| call(self.secs, self.nanos, other.secs, other.nanos, out))
+    }
+}
+
+/// The sum of a list.
+impl Duration {
+    /// The exact total of the rows in the range, each a place in both slices; `raw::sum` takes rows that lie as bytes.
+    #[cfg(target_endian = "little")]
+    pub fn sum(secs: &[u64], nanos: &[u32], rows: Range<u64>) -> Result<Duration, Refusal> {
+        // SAFETY: every byte of a number is a byte, and on this machine the low one comes first, as the library reads.
+        let (secs, nanos) = unsafe { (secs.align_to().1, nanos.align_to().1) };
+        ask_duration(|out| raw::sum(secs, nanos, rows.start, rows.end, out))
     }
 }

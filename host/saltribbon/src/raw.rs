@@ -35,4 +35,34 @@ thin! {
     is_zero = salt_is_zero(secs: u64, nanos: u32);
 
     cmp = salt_cmp(secs: u64, nanos: u32, secs2: u64, nanos2: u32);
+
+    checked_add = salt_checked_add(secs: u64, nanos: u32, secs2: u64, nanos2: u32);
+    saturating_add = salt_saturating_add(secs: u64, nanos: u32, secs2: u64, nanos2: u32);
+    checked_sub = salt_checked_sub(secs: u64, nanos: u32, secs2: u64, nanos2: u32);
+    saturating_sub = salt_saturating_sub(secs: u64, nanos: u32, secs2: u64, nanos2: u32);
+    abs_diff = salt_abs_diff(secs: u64, nanos: u32, secs2: u64, nanos2: u32);
+    div_duration_floor = salt_div_duration_floor(secs: u64, nanos: u32, secs2: u64, nanos2: u32);
+    div_duration_ceil = salt_div_duration_ceil(secs: u64, nanos: u32, secs2: u64, nanos2: u32);
+
+    checked_mul = salt_checked_mul(secs: u64, nanos: u32, factor: u32);
+    saturating_mul = salt_saturating_mul(secs: u64, nanos: u32, factor: u32);
+    checked_div = salt_checked_div(secs: u64, nanos: u32, divisor: u32);
+}
+
+/// `salt_sum` over rows of eight and four bytes, low byte first: 0, or the refusal's number and an untouched buffer.
+#[inline]
+pub fn sum(secs: &[u8], nanos: &[u8], first: u64, end: u64, out: &mut [u8]) -> u32 {
+    // SAFETY: each pointer goes with the length of its slice, and nobody else holds the last one.
+    unsafe {
+        sys::salt_sum(
+            secs.as_ptr(),
+            secs.len(),
+            nanos.as_ptr(),
+            nanos.len(),
+            first,
+            end,
+            out.as_mut_ptr(),
+            out.len(),
+        )
+    }
 }

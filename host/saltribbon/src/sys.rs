@@ -29,4 +29,77 @@ extern "C" {
         out: *mut u8,
         len: usize,
     ) -> u32;
+
+    pub fn salt_checked_add(
+        secs: u64,
+        nanos: u32,
+        secs2: u64,
+        nanos2: u32,
+        out: *mut u8,
+        len: usize,
+    ) -> u32;
+    pub fn salt_saturating_add(
+        secs: u64,
+        nanos: u32,
+        secs2: u64,
+        nanos2: u32,
+        out: *mut u8,
+        len: usize,
+    ) -> u32;
+    pub fn salt_checked_sub(
+        secs: u64,
+        nanos: u32,
+        secs2: u64,
+        nanos2: u32,
+        out: *mut u8,
+        len: usize,
+    ) -> u32;
+    pub fn salt_saturating_sub(
+        secs: u64,
+        nanos: u32,
+        secs2: u64,
+        nanos2: u32,
+        out: *mut u8,
+        len: usize,
+    ) -> u32;
+    pub fn salt_abs_diff(
+        secs: u64,
+        nanos: u32,
+        secs2: u64,
+        nanos2: u32,
+        out: *mut u8,
+        len: usize,
+    ) -> u32;
+    pub fn salt_div_duration_floor(
+        secs: u64,
+        nanos: u32,
+        secs2: u64,
+        nanos2: u32,
+        out: *mut u8,
+        len: usize,
+    ) -> u32;
+    pub fn salt_div_duration_ceil(
+        secs: u64,
+        nanos: u32,
+        secs2: u64,
+        nanos2: u32,
+        out: *mut u8,
+        len: usize,
+    ) -> u32;
+
+    pub fn salt_checked_mul(secs: u64, nanos: u32, factor: u32, out: *mut u8, len: usize) -> u32;
+    pub fn salt_saturating_mul(secs: u64, nanos: u32, factor: u32, out: *mut u8, len: usize)
+        -> u32;
+    pub fn salt_checked_div(secs: u64, nanos: u32, divisor: u32, out: *mut u8, len: usize) -> u32;
+
+    pub fn salt_sum(
+        secs: *const u8,
+        secs_len: usize,
+        nanos: *const u8,
+        nanos_len: usize,
+        first: u64,
+        end: u64,
+        out: *mut u8,
+        len: usize,
+    ) -> u32;
 }

@@ -8,7 +8,7 @@ pub struct Row {
 }
 
 pub fn all() -> Vec<Row> {
-    [units(), pairs(), counts(), order()]
+    [units(), pairs(), counts(), order(), arithmetic(), sums()]
         .into_iter()
         .flatten()
         .collect()
@@ -100,5 +100,53 @@ fn order() -> Vec<Row> {
         row("one second beside 1000 milliseconds", than(1_000)),
         row("one second beside 1001 milliseconds", than(1_001)),
         row("is ZERO zero", zero.map(|yes| yes.to_string())),
+    ]
+}
+
+fn count(answer: Result<u128, Refusal>) -> Result<String, Refusal> {
+    answer.map(|n| n.to_string())
+}
+
+/// What a controller works out from its table.
+fn arithmetic() -> Vec<Row> {
+    let pair = |secs, nanos| Duration { secs, nanos };
+    let (second, ramp, pause) = (pair(1, 0), pair(2, 250_000_000), pair(0, 300_000_000));
+    let longest = pair(u64::MAX, 999_999_999);
+    let plain = |asked, answer: Result<Duration, Refusal>| row(asked, answer.and_then(time));
+    vec![
+        plain("2.25 s and 300 ms", ramp.checked_add(pause)),
+        plain("300 ms less 2.25 s", pause.checked_sub(ramp)),
+        plain("the same, at least zero", pause.saturating_sub(ramp)),
+        plain("between 300 ms and 2.25 s", pause.abs_diff(ramp)),
+        plain("2.25 s four times", ramp.checked_mul(4)),
+        plain("the longest time twice", longest.checked_mul(2)),
+        plain("the same, at most the longest", longest.saturating_mul(2)),
+        plain("1 s over 3", second.checked_div(3)),
+        plain("1 s over 0", second.checked_div(0)),
+        row(
+            "300 ms in 1 s, whole times",
+            count(second.div_duration_floor(pause)),
+        ),
+        row(
+            "300 ms in 1 s, rounded up",
+            count(second.div_duration_ceil(pause)),
+        ),
+    ]
+}
+
+/// A ramp of four steps, and what is mistyped in it.
+fn sums() -> Vec<Row> {
+    let secs = [0, 1, 2, u64::MAX];
+    let nanos = [250_000_000, 500_000_000, 750_000_000, 0];
+    let mistyped = [250_000_000, 1_500_000_000, 750_000_000, 0];
+    let sum = |asked, nanos, rows| row(asked, Duration::sum(&secs, nanos, rows).and_then(time));
+    vec![
+        sum("steps 0 to 2 of a ramp", &nanos, 0..3),
+        sum("steps 1 and 2", &nanos, 1..3),
+        sum("no step", &nanos, 2..2),
+        sum("all four, the last far too long", &nanos, 0..4),
+        sum("steps 0 to 2, one mistyped", &mistyped, 0..3),
+        sum("step 2 alone of those", &mistyped, 2..3),
+        sum("five of four steps", &nanos, 0..5),
     ]
 }

@@ -1,0 +1,3 @@
+-- Laws of the definitions, which the proofs here cite.
+pub mod Integers
+pub mod Quotients

@@ -1,0 +1,28 @@
+-- `arithmetic::div_duration_floor` meets its contract. Assumes nothing.
+use mathlib.Core.Path.{sym, _∙_}
+use native.Mathlib.Omega.{arith}
+use Rattle.arithmetic.specs.Arithmetic.{floorOf}
+use Rattle.duration.proofs.Valid.{first-bad, second-bad}
+use Rattle.arithmetic.proofs.Quotients.{floor-zero, floor-is}
+use borrow.Author.Needs.{needs}
+use Rattle.arithmetic.proofs.div_duration_floor.Statement.{statement}
+use Rattle.arithmetic.proofs.div_duration_floor.Tie as tie
+
+returns : tie.Need-returns
+unfolding floorOf
+returns c = first-bad _ _ _ _ (omega arith)
+
+returns-2 : tie.Need-returns-2
+unfolding floorOf
+returns-2 c = second-bad _ _ _ _ (omega arith) (omega arith)
+
+returns-3 : tie.Need-returns-3
+returns-3 c = let m = c .before .before in floor-is _ _ (omega arith) (omega arith) (m .x .given .0 .0) (omega arith) (sym (m .x .given .1) ∙ m .before .before .divided .ensures)
+
+returns-4 : tie.Need-returns-4
+returns-4 c = floor-zero _ _ (omega arith) (omega arith) (sym (c .before .r .given .1) ∙ c .before .before .before .divided .ensures)
+
+pub div-duration-floor-spec : {M : Type 1} → statement M
+div-duration-floor-spec =
+    tie.close
+    (tie.spec returns returns-2 (λ c κs. search needs) (λ c. search needs) (λ c. search needs) returns-3 returns-4)

@@ -1,0 +1,2 @@
+-- What the contracts of `arithmetic` cite.
+pub mod Arithmetic

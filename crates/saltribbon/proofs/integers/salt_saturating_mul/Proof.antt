@@ -1,0 +1,15 @@
+-- `saltribbon::integers::salt_saturating_mul` meets its contract. Assumes nothing.
+use mathlib.Core.Path.{ap, _∙_}
+use Rattle.saltribbon.specs.Reply.{ofDuration}
+use Rattle.saltribbon.proofs.Replies.{sent}
+use borrow.Author.Needs.{needs}
+use Rattle.saltribbon.proofs.integers.salt_saturating_mul.Statement.{statement}
+use Rattle.saltribbon.proofs.integers.salt_saturating_mul.Tie as tie
+
+returns : tie.Need-returns
+returns c = sent (c .before .before .send .ensures) (c .before .before .before .before .of-duration .ensures ∙ ap ofDuration (c .before .before .before .before .before .saturating-mul .ensures))
+
+pub salt-saturating-mul-spec : {M : Type 1} → statement M
+salt-saturating-mul-spec =
+    tie.close
+    (tie.spec (λ c κs. search needs) (λ c κs. search needs) (λ c κs. search needs) (λ c. search needs) returns)
