@@ -1,5 +1,7 @@
 // The C functions by their number in the list of stored answers.
+use crate::list;
 use saltribbon::constructors;
+use saltribbon::integers;
 use saltribbon::parts;
 
 fn half(n: u64) -> u32 {
@@ -38,10 +40,33 @@ fn reads(f: u64, a: u64, b: u64, c: u64, d: u64, out: &mut [u8]) -> u32 {
     }
 }
 
+// Functions 19 to 28 work with two durations, or with one and a whole number.
+fn works(f: u64, a: u64, b: u64, c: u64, d: u64, out: &mut [u8]) -> u32 {
+    match f {
+        19 => integers::salt_checked_add(a, half(b), c, half(d), out),
+        20 => integers::salt_saturating_add(a, half(b), c, half(d), out),
+        21 => integers::salt_checked_sub(a, half(b), c, half(d), out),
+        22 => integers::salt_saturating_sub(a, half(b), c, half(d), out),
+        23 => integers::salt_abs_diff(a, half(b), c, half(d), out),
+        24 => integers::salt_div_duration_floor(a, half(b), c, half(d), out),
+        25 => integers::salt_div_duration_ceil(a, half(b), c, half(d), out),
+        26 => integers::salt_checked_mul(a, half(b), half(c), out),
+        27 => integers::salt_saturating_mul(a, half(b), half(c), out),
+        28 => integers::salt_checked_div(a, half(b), half(c), out),
+        _ => u32::MAX,
+    }
+}
+
 // A number that names no function returns what no function does.
 pub fn run(f: u64, a: u64, b: u64, c: u64, d: u64, out: &mut [u8; 16]) -> u32 {
     if f < 10 {
         return makes(f, a, b, out);
     }
-    reads(f, a, b, c, d, out)
+    if f < 19 {
+        return reads(f, a, b, c, d, out);
+    }
+    if f < 29 {
+        return works(f, a, b, c, d, out);
+    }
+    list::sum(a, b, c, d, out)
 }

@@ -1,6 +1,7 @@
 // Replays the stored answers of the Rust through the C functions and compares returned numbers and bytes.
 // A row of standard input is eight numbers of 16 hex digits: the function, four arguments, the number it must return, two words.
 mod calls;
+mod list;
 mod names;
 mod row;
 

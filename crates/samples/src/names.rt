@@ -21,6 +21,17 @@ fn name(f: u64) -> bool {
         16 => io::write_all(STDOUT_FILENO, b"salt_as_nanos "),
         17 => io::write_all(STDOUT_FILENO, b"salt_is_zero "),
         18 => io::write_all(STDOUT_FILENO, b"salt_cmp "),
+        19 => io::write_all(STDOUT_FILENO, b"salt_checked_add "),
+        20 => io::write_all(STDOUT_FILENO, b"salt_saturating_add "),
+        21 => io::write_all(STDOUT_FILENO, b"salt_checked_sub "),
+        22 => io::write_all(STDOUT_FILENO, b"salt_saturating_sub "),
+        23 => io::write_all(STDOUT_FILENO, b"salt_abs_diff "),
+        24 => io::write_all(STDOUT_FILENO, b"salt_div_duration_floor "),
+        25 => io::write_all(STDOUT_FILENO, b"salt_div_duration_ceil "),
+        26 => io::write_all(STDOUT_FILENO, b"salt_checked_mul "),
+        27 => io::write_all(STDOUT_FILENO, b"salt_saturating_mul "),
+        28 => io::write_all(STDOUT_FILENO, b"salt_checked_div "),
+        29 => io::write_all(STDOUT_FILENO, b"salt_sum "),
         _ => io::write_all(STDOUT_FILENO, b"function without a name "),
     }
 }
