@@ -1,3 +1,5 @@
 -- Laws that several crates cite.
 pub mod Bytes
 pub mod Decoded
+pub mod Closest
+pub mod Written

@@ -1,2 +1,3 @@
 -- Definitions that several crates cite.
 pub mod Bytes
+pub mod Written

@@ -1,2 +1,3 @@
 -- Laws of the replies.
 pub mod Replies
+pub mod Signs

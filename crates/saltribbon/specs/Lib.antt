@@ -1,2 +1,3 @@
 -- What the contracts of the C functions cite.
 pub mod Reply
+pub mod Said

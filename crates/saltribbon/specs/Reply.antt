@@ -5,6 +5,7 @@ use mathlib.Core.Bool.{cond}
 use mathlib.Core.List.{List, _++_}
 use lib.ListN.{length, drop}
 use lib.Dec.{ltb}
+use lib.Ieee.{binary32, binary64, toBits}
 use Rattle.laws.specs.Bytes.{littleEndian}
 use Rattle.refusal.specs.Numbers.{numberOf}
 use Rattle.refusal.specs.declared.Refusal.the-variants.{NoRoom}
@@ -24,6 +25,10 @@ use Rattle.duration.specs.declared.FlagAnswer.{FlagAnswer}
 use Rattle.duration.specs.declared.FlagAnswer.the-variants as Flag
 use Rattle.duration.specs.declared.OrderAnswer.{OrderAnswer}
 use Rattle.duration.specs.declared.OrderAnswer.the-variants as Order
+use Rattle.seconds.specs.declared.F64Answer.{F64Answer}
+use Rattle.seconds.specs.declared.F64Answer.the-variants as F64
+use Rattle.seconds.specs.declared.F32Answer.{F32Answer}
+use Rattle.seconds.specs.declared.F32Answer.the-variants as F32
 use Rattle.saltribbon.specs.declared.reply.Reply.{Reply}
 use Rattle.saltribbon.specs.declared.reply.Reply.the-variants.{Words, Refused}
 
@@ -82,3 +87,13 @@ placeOf Greater = 2
 abbrev pub ofOrder : OrderAnswer → Reply
 ofOrder (Order.Is o) = Words (placeOf o) 0
 ofOrder (Order.Refused r) = Refused r
+
+-- an f64: its eight bytes, then zeros. A NaN has the one pattern that the library writes, 0x7FF8000000000000
+abbrev pub ofF64 : F64Answer → Reply
+ofF64 (F64.Is x) = Words (toBits binary64 x) 0
+ofF64 (F64.Refused r) = Refused r
+
+-- an f32: its four bytes, then zeros. A NaN is 0x7FC00000
+abbrev pub ofF32 : F32Answer → Reply
+ofF32 (F32.Is x) = Words (toBits binary32 x) 0
+ofF32 (F32.Refused r) = Refused r

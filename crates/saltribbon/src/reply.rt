@@ -5,6 +5,8 @@ use duration::OrderAnswer;
 use duration::PartAnswer;
 use duration::WordAnswer;
 use refusal::Refusal;
+use seconds::F32Answer;
+use seconds::F64Answer;
 use sums::SumAnswer;
 use wide::Order;
 use wide::WideAnswer;
@@ -12,8 +14,9 @@ ghost use mathlib.Core.Path.{_≡_};
 ghost use mathlib.Core.List.{_++_};
 ghost use Prim.Native.Nat.{_≤_};
 ghost use lib.ListN.{length, drop};
+ghost use lib.Ieee.{binary32, binary64, toBits};
 ghost use Rattle.laws.specs.Bytes.{littleEndian};
-ghost use Rattle.saltribbon.specs.Reply.{Replied, ofDuration, ofSum, ofWide, ofWord, ofPart, ofFlag, placeOf, ofOrder};
+ghost use Rattle.saltribbon.specs.Reply.{Replied, ofDuration, ofSum, ofWide, ofWord, ofPart, ofFlag, placeOf, ofOrder, ofF32, ofF64};
 
 // What every function but the text's hands back.
 pub enum Reply {
@@ -130,5 +133,43 @@ pub fn of_order(a: OrderAnswer) -> Reply
     match a {
         OrderAnswer::Is(o) => Reply::Words(place(o), 0),
         OrderAnswer::Refused(r) => Reply::Refused(r),
+    }
+}
+
+// The bits of x, with one pattern for every NaN.
+fn bits_f64(x: f64) -> u64
+    ensures { λ r. ⌜ r ≡ toBits binary64 x ⌝ }
+{
+    if x != x {
+        return 0x7ff8_0000_0000_0000;
+    }
+    f64::to_bits(x)
+}
+
+pub fn of_f64(a: F64Answer) -> Reply
+    ensures { λ r. ⌜ r ≡ ofF64 a ⌝ }
+{
+    match a {
+        F64Answer::Is(x) => Reply::Words(bits_f64(x), 0),
+        F64Answer::Refused(r) => Reply::Refused(r),
+    }
+}
+
+// The bits of x, with one pattern for every NaN.
+fn bits_f32(x: f32) -> u32
+    ensures { λ r. ⌜ r ≡ toBits binary32 x ⌝ }
+{
+    if x != x {
+        return 0x7fc0_0000;
+    }
+    f32::to_bits(x)
+}
+
+pub fn of_f32(a: F32Answer) -> Reply
+    ensures { λ r. ⌜ r ≡ ofF32 a ⌝ }
+{
+    match a {
+        F32Answer::Is(x) => Reply::Words(bits_f32(x) as u64, 0),
+        F32Answer::Refused(r) => Reply::Refused(r),
     }
 }

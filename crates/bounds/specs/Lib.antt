@@ -1,0 +1,6 @@
+-- The theorems, as statements; `proofs` has a proof of each.
+pub mod Distance
+pub mod Errors
+pub mod Trip
+pub mod Conversions
+pub mod Samples

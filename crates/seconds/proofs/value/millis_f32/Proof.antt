@@ -1,0 +1,14 @@
+-- `seconds::value::millis_f32` meets its contract. Assumes nothing.
+use mathlib.Core.Path.{refl}
+use lib.Ieee.{binary32, ofInt, ofBits}
+use Rattle.seconds.proofs.Values.{millis-is}
+use borrow.Author.Needs.{needs}
+use Rattle.seconds.proofs.value.millis_f32.Statement.{statement}
+use Rattle.seconds.proofs.value.millis_f32.Tie as tie
+
+returns : tie.Need-returns
+unfolding ofBits ofInt
+returns c = millis-is binary32 _ (c .before .u64-to-f32 .ensures) (c .u32-to-f32 .ensures) refl refl
+
+pub millis-f32-spec : {M : Type 1} → statement M
+millis-f32-spec = tie.close (tie.spec (λ c κs. search needs) (λ c κs. search needs) returns)

@@ -1,0 +1,3 @@
+-- What the contracts of `seconds` cite.
+pub mod From
+pub mod Out

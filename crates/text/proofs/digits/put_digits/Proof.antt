@@ -1,0 +1,67 @@
+-- `text::digits::put_digits` meets its contract. The invariant: to write the digits that are left gives what is wanted. Assumes nothing.
+use mathlib.Core.Path.{_≡_, refl, _∙_}
+use Prim.Native.Nat.{_≤_}
+use native.Mathlib.Omega.{arith}
+use lib.ListN.{length, length-set}
+use Rattle.laws.specs.Written.{splice}
+use Rattle.text.specs.Digits.{lastDigits}
+use Rattle.text.proofs.Decimals.{digit-more, all-digits}
+use Rattle.text.proofs.digits.put_digits.Statement.{statement}
+use Rattle.text.proofs.digits.put_digits.Tie as tie
+
+abbrev Inv-loop : tie.InvT-loop
+Inv-loop out₀ at n k i₀ rest₀ out i rest = (i ≤ k) × (length out ≡ length out₀) × (splice out at (lastDigits i rest) ≡ splice out₀ at (lastDigits k n))
+
+abbrev μ-loop : tie.MeasureT-loop
+μ-loop out₀ at n k i₀ rest₀ out i rest = i
+
+loop-holds : tie.Need-loop-holds Inv-loop μ-loop
+loop-holds c = (omega arith, refl, refl)
+
+sub-i : tie.Need-sub-i Inv-loop μ-loop
+sub-i c = omega arith
+
+cast-out : tie.Need-cast-out Inv-loop μ-loop
+cast-out c = omega arith
+
+add-out : tie.Need-add-out Inv-loop μ-loop
+add-out c = omega arith
+
+add-out-2 : tie.Need-add-out-2 Inv-loop μ-loop
+add-out-2 c = omega arith
+
+slice-write-out : tie.Need-slice-write-out Inv-loop μ-loop
+slice-write-out c = omega arith
+
+loop-less : tie.Need-loop-less Inv-loop μ-loop
+loop-less c = omega arith
+
+loop-again : tie.Need-loop-again Inv-loop μ-loop
+loop-again c = (omega arith, simp length-set (c .before .loop .inv .1), digit-more _ _ _ _ (omega arith) ∙ c .before .loop .inv .2)
+
+add-result : tie.Need-add-result Inv-loop μ-loop
+add-result c = omega arith
+
+same-length : tie.Need-same-length Inv-loop μ-loop
+same-length c = c .before .loop .inv .1
+
+returns : tie.Need-returns Inv-loop μ-loop
+returns c = all-digits _ _ _ (omega arith) (c .before .loop .inv .2)
+
+pub put-digits-spec : {M : Type 1} → statement M
+put-digits-spec =
+    tie.close
+    (tie.spec
+    Inv-loop
+    μ-loop
+    loop-holds
+    sub-i
+    cast-out
+    add-out
+    add-out-2
+    slice-write-out
+    loop-less
+    loop-again
+    add-result
+    same-length
+    returns)

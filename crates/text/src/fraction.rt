@@ -1,0 +1,40 @@
+// The digit step: the digits of a fraction, and how many of them are in use.
+use crate::digits::put_digits;
+ghost use mathlib.Core.Path.{_≡_};
+ghost use Prim.Native.Nat.{_^_, _<_};
+ghost use Rattle.text.specs.Text.{exactPlaces};
+ghost use Rattle.text.specs.Parts.{fractionOf};
+
+// Nine digits, and how many stand before the zeros at the end.
+pub struct Fraction {
+    pub digits: [u8; 9],
+    pub count: usize,
+}
+
+// Of the nine digits of x, how many stand before the zeros at the end.
+fn used_of(x: u32) -> usize
+    requires { ⌜ (0 < x) × (x < 10 ^ 9) ⌝ }
+    ensures { λ r. ⌜ r ≡ exactPlaces 9 x ⌝ }
+{
+    let mut count = 9;
+    let mut rest = x;
+    while rest % 10 == 0 {
+        rest /= 10;
+        count -= 1;
+    }
+    count
+}
+
+// The digits of x billionths.
+pub fn fraction_of(x: u32) -> Fraction
+    requires { ⌜ x < 10 ^ 9 ⌝ }
+    ensures { λ r. ⌜ r ≡ fractionOf x ⌝ }
+{
+    let mut digits = [b'0'; 9];
+    if x == 0 {
+        return Fraction { digits, count: 0 };
+    }
+    put_digits(&mut digits, 0, x as u64, 9);
+    let count = used_of(x);
+    Fraction { digits, count }
+}
