@@ -4,16 +4,17 @@
  * A duration is a pair: secs, any uint64_t, and nanos, 0 to 999999999. It goes
  * in as two numbers and means secs * 10^9 + nanos nanoseconds.
  *
- * Result.  Every function returns 0, or the number of the refusal.
+ * Result.  Every function but salt_fmt returns 0, or the number of the refusal.
  *
  * Answer.  `out` points to `len` bytes that the caller lends. The answer is
  * SALT_ANSWER_BYTES bytes at the front of `out`, little-endian on every machine.
- * The bytes after them stay as they were.
+ * The bytes after them stay as they were.  (salt_fmt writes its text and no more.)
  *
  *     duration               seconds in 8 bytes, nanoseconds in 4, 4 zeros
  *     wide count             low word in 8 bytes, high word in 8
  *     whole seconds          8 bytes, 8 zeros
  *     part below a second    4 bytes, 12 zeros
+ *     double, float          its IEEE 754 bits in 8 or 4 bytes, zeros after
  *     zero or not            1 or 0 in the first byte, 15 zeros
  *     order                  0 less, 1 equal, 2 greater in the first byte, 15 zeros
  *
@@ -35,6 +36,7 @@
 
 #include <stddef.h>
 #include <stdint.h>
+#include <string.h>
 
 #ifdef __cplusplus
 extern "C" {
@@ -52,6 +54,23 @@ static inline uint32_t salt_read_u32(const uint8_t *at)
 static inline uint64_t salt_read_u64(const uint8_t *at)
 {
     return (uint64_t)salt_read_u32(at) | (uint64_t)salt_read_u32(at + 4) << 32;
+}
+
+/* The float in the first bytes of an answer, where the machine's floats are those of IEEE 754. */
+static inline double salt_read_f64(const uint8_t *at)
+{
+    uint64_t bits = salt_read_u64(at);
+    double value;
+    memcpy(&value, &bits, sizeof value);
+    return value;
+}
+
+static inline float salt_read_f32(const uint8_t *at)
+{
+    uint32_t bits = salt_read_u32(at);
+    float value;
+    memcpy(&value, &bits, sizeof value);
+    return value;
 }
 
 /* The refusals. */
@@ -79,6 +98,20 @@ enum salt_unit {
     SALT_UNIT_HOURS = 5,
     SALT_UNIT_DAYS = 6,
     SALT_UNIT_WEEKS = 7
+};
+
+/* The printing options of salt_fmt that are left out: no precision, no width. */
+#define SALT_NONE (-1)
+
+/* The longest text of salt_fmt; a buffer of that many bytes is never too short for it. */
+#define SALT_TEXT_BYTES 278
+
+/* Where salt_fmt puts the text in its width. */
+enum salt_align {
+    SALT_ALIGN_NONE = 0, /* left, too */
+    SALT_ALIGN_LEFT = 1,
+    SALT_ALIGN_CENTRE = 2, /* the smaller half of the fill in front */
+    SALT_ALIGN_RIGHT = 3
 };
 
 /* ---- Constructors: the answer is a duration. ---- */
@@ -183,6 +216,61 @@ uint32_t salt_div_duration_ceil(uint64_t secs, uint32_t nanos, uint64_t secs2, u
 
 /* The rows from first up to end together, exactly; zero for an empty range. SALT_BAD_RANGE, then SALT_BAD_ROW anywhere in the range, then SALT_OVERFLOW. */
 uint32_t salt_sum(const uint8_t *secs, size_t secs_len, const uint8_t *nanos, size_t nanos_len, uint64_t first, uint64_t end, uint8_t *out, size_t len);
+
+/* ---- Floats out: each operation rounds once, to nearest, half to even. ---- */
+
+/* The seconds: secs + nanos / 10^9 (8 bytes). */
+uint32_t salt_as_secs_f64(uint64_t secs, uint32_t nanos, uint8_t *out, size_t len);
+
+/* The seconds: secs + nanos / 10^9 (4 bytes). */
+uint32_t salt_as_secs_f32(uint64_t secs, uint32_t nanos, uint8_t *out, size_t len);
+
+/* The milliseconds: secs * 1000 + nanos / 10^6 (8 bytes). */
+uint32_t salt_as_millis_f64(uint64_t secs, uint32_t nanos, uint8_t *out, size_t len);
+
+/* The milliseconds: secs * 1000 + nanos / 10^6 (4 bytes). */
+uint32_t salt_as_millis_f32(uint64_t secs, uint32_t nanos, uint8_t *out, size_t len);
+
+/* The first over the second, each as secs * 10^9 + nanos; infinity over zero, and for zero over zero the NaN 0x7FF8000000000000 (8 bytes). */
+uint32_t salt_div_duration_f64(uint64_t secs, uint32_t nanos, uint64_t secs2, uint32_t nanos2, uint8_t *out, size_t len);
+
+/* The same as a float; the NaN is 0x7FC00000 (4 bytes). */
+uint32_t salt_div_duration_f32(uint64_t secs, uint32_t nanos, uint64_t secs2, uint32_t nanos2, uint8_t *out, size_t len);
+
+/* ---- Floats in: the answer is a duration; SALT_NEGATIVE below zero (-0.0 is zero), SALT_OVERFLOW_OR_NAN for NaN and from 2^64 on. ---- */
+
+/* That many seconds, exactly, then rounded to the nearest nanosecond, half to even. */
+uint32_t salt_try_from_secs_f64(double seconds, uint8_t *out, size_t len);
+
+/* The same from a float. */
+uint32_t salt_try_from_secs_f32(float seconds, uint8_t *out, size_t len);
+
+/* The seconds as a double, times the factor, as salt_try_from_secs_f64 has it. */
+uint32_t salt_mul_f64(uint64_t secs, uint32_t nanos, double factor, uint8_t *out, size_t len);
+
+/* The seconds as a double, over the divisor, as salt_try_from_secs_f64 has it; a divisor of zero gives infinity or NaN. */
+uint32_t salt_div_f64(uint64_t secs, uint32_t nanos, double divisor, uint8_t *out, size_t len);
+
+/* salt_mul_f64 of the factor as a double. */
+uint32_t salt_mul_f32(uint64_t secs, uint32_t nanos, float factor, uint8_t *out, size_t len);
+
+/* salt_div_f64 of the divisor as a double. */
+uint32_t salt_div_f32(uint64_t secs, uint32_t nanos, float divisor, uint8_t *out, size_t len);
+
+/* ---- Text: the length in bytes comes back, or the refusal's number negated. ---- */
+
+/*
+ * The options of salt_fmt; any other number is SALT_BAD_OPTIONS.
+ *
+ *     plus         1 for a '+' in front, else 0
+ *     precision    0 to 255 digits behind the point, half to even; SALT_NONE: as many as there are
+ *     width        0 to 255 characters at least; SALT_NONE: as many as there are
+ *     align        enum salt_align
+ *     fill         the byte that fills the width, 0x20 to 0x7E
+ */
+
+/* The duration in s, ms, \xC2\xB5s or ns, such as 1.5s, in UTF-8 without a zero at its end; the bytes behind it stay. */
+int64_t salt_fmt(uint64_t secs, uint32_t nanos, int64_t plus, int64_t precision, int64_t width, int64_t align, int64_t fill, uint8_t *out, size_t len);
 
 #ifdef __cplusplus
 }

@@ -25,7 +25,7 @@ fn main() {
         }
         None => {
             println!(
-                "cargo::rustc-env=ORACLE_SOURCE=the compiler's own Duration, {}",
+                "cargo::rustc-env=ORACLE_SOURCE=the compiler's own Duration, {}; mul_f32 and div_f32 by way of its mul_f64 and div_f64",
                 compiler()
             );
         }

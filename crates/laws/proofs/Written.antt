@@ -53,14 +53,6 @@ nothing xs i = record { next = sym (add-zero i); bytes = sym (splice-none xs i) 
 pub as-bytes : {xs zs : List ℕ} {i r : ℕ} {a b : List ℕ} → a ≡ b → Wrote xs zs i r a → Wrote xs zs i r b
 as-bytes e w = rw e at w
 
--- the room that is left after a write
-pub room : {xs ys : List ℕ} {i m : ℕ} {a : List ℕ} (b : List ℕ) → Wrote xs ys i m a → i + length (a ++ b) ≤ length xs → m + length b ≤ length ys
-room {xs} {ys} {i} {m} {a} b u h = omega (arith, ap length (u .bytes), length-splice xs i a, length-append a b)
-
--- a write keeps the length
-pub same-room : {xs ys : List ℕ} {i m : ℕ} {a : List ℕ} → Wrote xs ys i m a → length ys ≡ length xs
-same-room {xs} {ys} {i} {m} {a} u = ap length (u .bytes) ∙ length-splice xs i a
-
 -- ---- a loop that writes src from its front: to write what is left of src gives what is wanted
 pub write-none : (xs src : List ℕ) (at : ℕ) → splice xs (at + 0) (drop 0 src) ≡ splice xs at src
 write-none xs src at = rw add-zero

@@ -1,6 +1,8 @@
 // The C functions by their number in the list of stored answers.
 use crate::list;
 use saltribbon::constructors;
+use saltribbon::floats_in;
+use saltribbon::floats_out;
 use saltribbon::integers;
 use saltribbon::parts;
 
@@ -57,6 +59,41 @@ fn works(f: u64, a: u64, b: u64, c: u64, d: u64, out: &mut [u8]) -> u32 {
     }
 }
 
+// The f64 of a bit pattern. The language makes no NaN of its bits, so any NaN stands for those.
+fn double(bits: u64) -> f64 {
+    if 0x7ff0_0000_0000_0000 < bits % 0x8000_0000_0000_0000 {
+        return 0.0 / 0.0;
+    }
+    f64::from_bits(bits)
+}
+
+fn single(bits: u64) -> f32 {
+    let word = half(bits);
+    if 0x7f80_0000 < word % 0x8000_0000 {
+        return 0.0 / 0.0;
+    }
+    f32::from_bits(word)
+}
+
+// Functions 30 to 41 go from and to floats, which stand in the list as their bits.
+fn floats(f: u64, a: u64, b: u64, c: u64, d: u64, out: &mut [u8]) -> u32 {
+    match f {
+        30 => floats_out::salt_as_secs_f64(a, half(b), out),
+        31 => floats_out::salt_as_secs_f32(a, half(b), out),
+        32 => floats_out::salt_as_millis_f64(a, half(b), out),
+        33 => floats_out::salt_as_millis_f32(a, half(b), out),
+        34 => floats_out::salt_div_duration_f64(a, half(b), c, half(d), out),
+        35 => floats_out::salt_div_duration_f32(a, half(b), c, half(d), out),
+        36 => floats_in::salt_try_from_secs_f64(double(a), out),
+        37 => floats_in::salt_try_from_secs_f32(single(a), out),
+        38 => floats_in::salt_mul_f64(a, half(b), double(c), out),
+        39 => floats_in::salt_div_f64(a, half(b), double(c), out),
+        40 => floats_in::salt_mul_f32(a, half(b), single(c), out),
+        41 => floats_in::salt_div_f32(a, half(b), single(c), out),
+        _ => u32::MAX,
+    }
+}
+
 // A number that names no function returns what no function does.
 pub fn run(f: u64, a: u64, b: u64, c: u64, d: u64, out: &mut [u8; 16]) -> u32 {
     if f < 10 {
@@ -68,5 +105,8 @@ pub fn run(f: u64, a: u64, b: u64, c: u64, d: u64, out: &mut [u8; 16]) -> u32 {
     if f < 29 {
         return works(f, a, b, c, d, out);
     }
-    list::sum(a, b, c, d, out)
+    if f == 29 {
+        return list::sum(a, b, c, d, out);
+    }
+    floats(f, a, b, c, d, out)
 }

@@ -4,6 +4,7 @@ mod calls;
 mod list;
 mod names;
 mod row;
+mod texts;
 
 use libc::STDIN_FILENO;
 use libc::STDOUT_FILENO;
@@ -60,4 +61,5 @@ fn main() {
     }
     names::print(current, rows - began);
     line(rows, b" stored answers, 0 differ\n");
+    texts::replay();
 }

@@ -1,7 +1,8 @@
 // The names of the C functions, for the report.
 use libc::STDOUT_FILENO;
 
-fn name(f: u64) -> bool {
+// Functions 1 to 29.
+fn whole(f: u64) -> bool {
     match f {
         1 => io::write_all(STDOUT_FILENO, b"salt_new "),
         2 => io::write_all(STDOUT_FILENO, b"salt_from_unit "),
@@ -34,6 +35,32 @@ fn name(f: u64) -> bool {
         29 => io::write_all(STDOUT_FILENO, b"salt_sum "),
         _ => io::write_all(STDOUT_FILENO, b"function without a name "),
     }
+}
+
+// Functions 30 to 41.
+fn floats(f: u64) -> bool {
+    match f {
+        30 => io::write_all(STDOUT_FILENO, b"salt_as_secs_f64 "),
+        31 => io::write_all(STDOUT_FILENO, b"salt_as_secs_f32 "),
+        32 => io::write_all(STDOUT_FILENO, b"salt_as_millis_f64 "),
+        33 => io::write_all(STDOUT_FILENO, b"salt_as_millis_f32 "),
+        34 => io::write_all(STDOUT_FILENO, b"salt_div_duration_f64 "),
+        35 => io::write_all(STDOUT_FILENO, b"salt_div_duration_f32 "),
+        36 => io::write_all(STDOUT_FILENO, b"salt_try_from_secs_f64 "),
+        37 => io::write_all(STDOUT_FILENO, b"salt_try_from_secs_f32 "),
+        38 => io::write_all(STDOUT_FILENO, b"salt_mul_f64 "),
+        39 => io::write_all(STDOUT_FILENO, b"salt_div_f64 "),
+        40 => io::write_all(STDOUT_FILENO, b"salt_mul_f32 "),
+        41 => io::write_all(STDOUT_FILENO, b"salt_div_f32 "),
+        _ => io::write_all(STDOUT_FILENO, b"function without a name "),
+    }
+}
+
+fn name(f: u64) -> bool {
+    if f < 30 {
+        return whole(f);
+    }
+    floats(f)
 }
 
 // A line for a function that has rows.

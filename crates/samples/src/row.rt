@@ -1,7 +1,7 @@
 // Numbers in a row of text, and words in the bytes of an answer.
 
 // What a hex digit is worth; any other byte is worth nothing, so that its row differs.
-fn digit(b: u8) -> u64 {
+pub fn digit(b: u8) -> u64 {
     match b {
         b'0'..=b'9' => (b - b'0') as u64,
         b'A'..=b'F' => (b - b'A') as u64 + 10,

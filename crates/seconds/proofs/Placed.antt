@@ -15,7 +15,7 @@ use borrow.Author.Tests.{lt-leb, ne-eqb}
 use Rattle.seconds.specs.Out.{whole}
 use Rattle.seconds.proofs.Operations.{whole-round, sub-at}
 
--- ---- the pattern of exponent field x and digits t
+-- ---- the pattern of the exponent field suc j and the digits t
 module _ (f : Format) (j t : ℕ) (X : suc j < ones f) (H : t < hid f) where
   abbrev b : ℕ
   b = suc j * hid f + t

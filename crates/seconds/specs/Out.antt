@@ -30,7 +30,7 @@ nanosAs f d = add f (mul f (whole f (d .secs)) (whole f (10 ^ 9))) (whole f (d .
 unfoldable pub quotientAs : Format → Duration → Duration → Float
 quotientAs f a b = div f (nanosAs f a) (nanosAs f b)
 
--- a float of each width as an answer, where the durations it is made of are none too bad
+-- a float of each width as an answer, or BadDuration where a pair that it is made of is no duration
 abbrev pub f64If : Bool → Float → F64Answer
 f64If ok x = cond ok (F64.Is x) (F64.Refused BadDuration)
 

@@ -1,5 +1,6 @@
 //! The fixed inputs of the list: the edges of each kind of function, then some random ones from a fixed seed.
 
+use judge::floats::{DOUBLE, SINGLE};
 use judge::{edges, Rng};
 
 const GIGA: u64 = 1_000_000_000;
@@ -18,6 +19,12 @@ pub struct Inputs {
     pub products: Vec<[u64; 4]>,
     pub divisions: Vec<[u64; 4]>,
     pub lists: Vec<[u64; 4]>,
+    pub floats_out: Vec<[u64; 4]>,
+    pub quotients: Vec<[u64; 4]>,
+    pub doubles: Vec<[u64; 4]>,
+    pub singles: Vec<[u64; 4]>,
+    pub by_doubles: Vec<[u64; 4]>,
+    pub by_singles: Vec<[u64; 4]>,
 }
 
 impl Inputs {
@@ -35,6 +42,12 @@ impl Inputs {
             products: products(&mut rng),
             divisions: divisions(&mut rng),
             lists: lists(),
+            floats_out: floats_out(&mut rng),
+            quotients: quotients(&mut rng),
+            doubles: doubles(&mut rng),
+            singles: singles(&mut rng),
+            by_doubles: by_doubles(&mut rng),
+            by_singles: by_singles(&mut rng),
         }
     }
 }
@@ -321,4 +334,167 @@ fn lists() -> Vec<[u64; 4]> {
         [1, 86_400, 31, 250_000_000],
         [0x0123_4567_89AB_CDEF, 0x0FED_CBA9_8765_4321, 7, 42],
     ]
+}
+
+/// Durations as floats: middles of two floats and their neighbours for both widths, the ends, bad ones.
+fn floats_out(rng: &mut Rng) -> Vec<[u64; 4]> {
+    let mut rows = vec![
+        (0, 0),
+        (0, 1),
+        (0, GIGA - 1),
+        (0, 500_000_000),
+        (1, 0),
+        (1, 1),
+        (2, 700_000_000),
+        (2, 345_678_000),
+        (8_388_607, GIGA - 1),
+        (8_388_608, 1),
+        (u64::MAX, 0),
+        (u64::MAX - 1_024, 0),
+        (u64::MAX - 1_023, 0),
+        (u64::MAX - 1_024, GIGA - 1),
+        (u64::MAX - 1_023, GIGA - 1),
+        LONGEST,
+        (0, GIGA),
+        (u64::MAX, u64::from(u32::MAX)),
+    ];
+    for middle in [
+        (1 << 24) + 1,
+        (1 << 53) + 1,
+        (1 << 53) + 3,
+        (1 << 63) | 1 << 39,
+    ] {
+        rows.extend([(middle - 1, 0), (middle, 0), (middle + 1, 0)]);
+        rows.push((middle, 500_000_000));
+    }
+    rows.extend((0..8).map(|_| good(rng)));
+    rows.into_iter().map(two).collect()
+}
+
+/// Quotients: below one, above, exact, over zero, zero over zero, bad ones.
+fn quotients(rng: &mut Rng) -> Vec<[u64; 4]> {
+    let mut rows = vec![
+        ((0, 0), (0, 0)),
+        ((0, 1), (0, 0)),
+        (LONGEST, (0, 0)),
+        ((0, 0), (0, 1)),
+        ((0, 0), LONGEST),
+        ((1, 0), (0, 300_000_000)),
+        ((1, 0), (3, 0)),
+        ((2, 700_000_000), (5, 400_000_000)),
+        ((0, 1), (0, 3)),
+        ((0, GIGA - 1), (1, 0)),
+        ((1, 0), (0, GIGA - 1)),
+        (LONGEST, LONGEST),
+        (LONGEST, (0, 1)),
+        ((0, 1), LONGEST),
+        ((u64::MAX, 0), LONGEST),
+        (((1 << 53) + 1, 0), (1, 0)),
+        ((9_007_199, 254_740_993), (0, 1)),
+        ((9_007_199, 254_740_995), (0, 1)),
+        ((0, 16_777_217), (0, 1)),
+        ((0, 16_777_219), (0, 1)),
+        ((0, GIGA), (0, 0)),
+    ];
+    rows.extend(bad_pairs());
+    rows.extend((0..14).map(|_| (good(rng), good(rng))));
+    rows.into_iter().map(four).collect()
+}
+
+fn one(bits: u64) -> [u64; 4] {
+    [bits, 0, 0, 0]
+}
+
+/// f64 seconds: 01's samples, both signs of the ends, ties and near misses, then random ones.
+fn doubles(rng: &mut Rng) -> Vec<[u64; 4]> {
+    let numbers = [
+        0.0,
+        -0.0,
+        f64::INFINITY,
+        f64::NEG_INFINITY,
+        -1.0,
+        -5e-324,
+        5e-324,
+        f64::MIN_POSITIVE,
+        1.0 / 1024.0,
+        3.0 / 1024.0,
+        2f64.powi(-31),
+        2f64.powi(-30),
+        1.0 - 2f64.powi(-53),
+        1.0,
+        0.1,
+        2.7,
+        1e-9,
+        8_388_608.000_000_001,
+        2f64.powi(53),
+        2f64.powi(63),
+        2f64.powi(64) - 2048.0,
+        2f64.powi(64),
+        1e300,
+    ];
+    let mut rows: Vec<u64> = numbers.map(f64::to_bits).into();
+    rows.extend([0x7FF8 << 48, 0xFFF8 << 48, (0x7FF0 << 48) + 1, u64::MAX]);
+    rows.extend((0..12).map(|_| DOUBLE.tie(rng)));
+    rows.extend((0..8).map(|_| DOUBLE.ordinary(rng)));
+    rows.into_iter().map(one).collect()
+}
+
+/// f32 seconds likewise.
+fn singles(rng: &mut Rng) -> Vec<[u64; 4]> {
+    let numbers = [
+        0.0,
+        -0.0,
+        f32::INFINITY,
+        f32::NEG_INFINITY,
+        -1.0,
+        -1e-45,
+        1e-45,
+        f32::MIN_POSITIVE,
+        1.0 / 1024.0,
+        3.0 / 1024.0,
+        2f32.powi(-31),
+        2f32.powi(-30),
+        1.0 - 2f32.powi(-24),
+        1.0,
+        0.1,
+        0.001,
+        2.7,
+        1e-9,
+        16_777_215.0,
+        2f32.powi(63),
+        2f32.powi(64) - 2f32.powi(40),
+        2f32.powi(64),
+        f32::MAX,
+    ];
+    let mut rows: Vec<u64> = numbers.map(|x| x.to_bits().into()).into();
+    rows.extend([0x7FC0_0000, 0xFFC0_0000, 0x7F80_0001, 0xFFFF_FFFF]);
+    rows.extend((0..12).map(|_| SINGLE.tie(rng)));
+    rows.extend((0..8).map(|_| SINGLE.ordinary(rng)));
+    rows.into_iter().map(one).collect()
+}
+
+/// Durations that go with each factor and divisor.
+const FACTORED: [Pair; 5] = [(0, 0), (0, 1), (2, 700_000_000), LONGEST, (0, GIGA)];
+
+/// A duration times or over an f64: 1 ns and the float nearest zero from below, the ends, a product of 2^64 s.
+fn by_doubles(rng: &mut Rng) -> Vec<[u64; 4]> {
+    let numbers = [-5e-324, 3.1, 0.0, -0.0, -1.0, f64::INFINITY, f64::NAN];
+    let mut rows = edges::cross(&FACTORED, &numbers.map(f64::to_bits));
+    let ends = [0.5, 1.0, 1.0 - 2f64.powi(-53), 1.0 + 2f64.powi(-52), 2.0];
+    rows.extend(ends.map(|by: f64| (LONGEST, by.to_bits())));
+    rows.extend([3.0, 0.1, 1e-9].map(|by: f64| ((1, 0), by.to_bits())));
+    rows.extend((0..6).map(|_| (good(rng), DOUBLE.ordinary(rng))));
+    rows.into_iter().map(three).collect()
+}
+
+/// The same with an f32.
+fn by_singles(rng: &mut Rng) -> Vec<[u64; 4]> {
+    let numbers = [-1e-45, 3.1, 0.0, -0.0, -1.0, f32::INFINITY, f32::NAN];
+    let bits = |by: f32| u64::from(by.to_bits());
+    let mut rows = edges::cross(&FACTORED, &numbers.map(bits));
+    let ends = [0.5, 1.0, 1.0 - 2f32.powi(-24), 1.0 + 2f32.powi(-23), 2.0];
+    rows.extend(ends.map(|by| (LONGEST, bits(by))));
+    rows.extend([3.0, 0.1, 1e-9].map(|by| ((1, 0), bits(by))));
+    rows.extend((0..6).map(|_| (good(rng), SINGLE.ordinary(rng))));
+    rows.into_iter().map(three).collect()
 }

@@ -1,11 +1,15 @@
-//! Prints the stored list of the oracle's answers, for a program that cannot run the Rust.
+//! Prints the stored lists of the oracle's answers, for a program that cannot run the Rust.
 //!
-//! A row is eight numbers of 16 hex digits, one space between them: the function's number, four arguments (unused ones are 0),
+//! `answers`: the numbers. `answers --texts`: the printed form, in rows of another kind (texts.rs).
+//!
+//! A row of numbers is eight numbers of 16 hex digits, one space between them: the function's number, four arguments (unused ones are 0),
 //! the number it must return, and its sixteen bytes as two words, the low one first (both 0 where it refuses).
 //!
+//! A float among the arguments or in the bytes is its bits.
 //! The sum, 29, has a list by rule: `c` rows, row i of (a + i * b) mod 2^64 seconds and (d + i * 7919) mod 10^9 nanoseconds.
 
 mod inputs;
+mod texts;
 
 use inputs::Inputs;
 use judge::{lent, salt, Answer, Image};
@@ -15,7 +19,17 @@ use std::process::ExitCode;
 
 fn main() -> ExitCode {
     judge::quiet();
-    match list(BufWriter::new(io::stdout().lock())) {
+    let out = BufWriter::new(io::stdout().lock());
+    let mut args = std::env::args().skip(1);
+    let printed = match (args.next().as_deref(), args.next()) {
+        (None, None) => list(out),
+        (Some("--texts"), None) => texts::list(out),
+        _ => {
+            eprintln!("usage: answers [--texts]");
+            return ExitCode::from(2);
+        }
+    };
+    match printed {
         Ok(()) => ExitCode::SUCCESS,
         Err(error) => {
             eprintln!("the list could not be written: {error}");
@@ -72,6 +86,23 @@ fn list(out: impl Write) -> io::Result<()> {
     list.scaled(27, &inputs.products, salt::saturating_mul)?;
     list.scaled(28, &inputs.divisions, salt::checked_div)?;
     list.rows(29, &inputs.lists, by_rule)?;
+
+    list.unary(30, &inputs.floats_out, salt::as_secs_f64)?;
+    list.unary(31, &inputs.floats_out, salt::as_secs_f32)?;
+    list.unary(32, &inputs.floats_out, salt::as_millis_f64)?;
+    list.unary(33, &inputs.floats_out, salt::as_millis_f32)?;
+    list.binary(34, &inputs.quotients, salt::div_duration_f64)?;
+    list.binary(35, &inputs.quotients, salt::div_duration_f32)?;
+    list.rows(36, &inputs.doubles, |[bits, ..]| {
+        salt::try_from_secs_f64(f64::from_bits(bits))
+    })?;
+    list.rows(37, &inputs.singles, |[bits, ..]| {
+        salt::try_from_secs_f32(f32::from_bits(bits as u32))
+    })?;
+    list.by_double(38, &inputs.by_doubles, salt::mul_f64)?;
+    list.by_double(39, &inputs.by_doubles, salt::div_f64)?;
+    list.by_single(40, &inputs.by_singles, salt::mul_f32)?;
+    list.by_single(41, &inputs.by_singles, salt::div_f32)?;
     list.out.flush()
 }
 
@@ -135,6 +166,28 @@ impl<W: Write> List<W> {
     ) -> io::Result<()> {
         self.rows(function, inputs, |[secs, nanos, by, _]| {
             judge(lent(secs, nanos as u32)?, by as u32)
+        })
+    }
+
+    fn by_double(
+        &mut self,
+        function: u64,
+        inputs: &[[u64; 4]],
+        judge: fn(Duration, f64, bool) -> Answer,
+    ) -> io::Result<()> {
+        self.rows(function, inputs, |[secs, nanos, bits, _]| {
+            judge(lent(secs, nanos as u32)?, f64::from_bits(bits), true)
+        })
+    }
+
+    fn by_single(
+        &mut self,
+        function: u64,
+        inputs: &[[u64; 4]],
+        judge: fn(Duration, f32, bool) -> Answer,
+    ) -> io::Result<()> {
+        self.rows(function, inputs, |[secs, nanos, bits, _]| {
+            judge(lent(secs, nanos as u32)?, f32::from_bits(bits as u32), true)
         })
     }
 }

@@ -1,8 +1,13 @@
 //! The Rust behind the same kind of boundary: C functions of our signatures, in a crate of their own so that nothing crosses the call.
 
-#![feature(duration_constants, duration_constructors, duration_integer_division)]
+#![feature(
+    duration_constants,
+    duration_constructors,
+    duration_integer_division,
+    duration_millis_float
+)]
 
-use oracle::Duration;
+use oracle::{Duration, TryFromFloatSecsError};
 use std::cmp::Ordering;
 use std::slice::from_raw_parts as slice;
 
@@ -69,6 +74,27 @@ fn divisor(secs: u64, nanos: u32) -> Result<Duration, u32> {
 #[inline]
 fn total(rows: impl Iterator<Item = Duration>) -> (u64, u64) {
     duration(rows.sum())
+}
+
+/// The Rust keeps the kind of its error to itself, so a caller asks for the sign.
+#[inline]
+fn converted(d: Result<Duration, TryFromFloatSecsError>, negative: bool) -> Words {
+    d.map(duration).map_err(|_| if negative { 1 } else { 2 })
+}
+
+/// Where the compiler's own Duration stands in, the operand is widened here: that one may work in f32.
+#[inline]
+fn by_single(
+    d: Duration,
+    by: f32,
+    given: impl Fn(Duration, f32) -> Duration,
+    wider: impl Fn(Duration, f64) -> Duration,
+) -> Duration {
+    if oracle::GIVEN {
+        given(d, by)
+    } else {
+        wider(d, by.into())
+    }
 }
 
 #[inline]
@@ -143,9 +169,86 @@ boundary! {
     checked_div(secs: u64, nanos: u32, divisor: u32) =
         duration(lent(secs, nanos)?.checked_div(divisor).ok_or(5u32)?);
 
+    as_secs_f64(secs: u64, nanos: u32) = small(lent(secs, nanos)?.as_secs_f64().to_bits());
+    as_secs_f32(secs: u64, nanos: u32) = small(lent(secs, nanos)?.as_secs_f32().to_bits());
+    as_millis_f64(secs: u64, nanos: u32) = small(lent(secs, nanos)?.as_millis_f64().to_bits());
+    as_millis_f32(secs: u64, nanos: u32) = small(lent(secs, nanos)?.as_millis_f32().to_bits());
+    div_duration_f64(secs: u64, nanos: u32, secs2: u64, nanos2: u32) =
+        small(lent(secs, nanos)?.div_duration_f64(lent(secs2, nanos2)?).to_bits());
+    div_duration_f32(secs: u64, nanos: u32, secs2: u64, nanos2: u32) =
+        small(lent(secs, nanos)?.div_duration_f32(lent(secs2, nanos2)?).to_bits());
+
+    try_from_secs_f64(seconds: f64) = converted(Duration::try_from_secs_f64(seconds), seconds < 0.0)?;
+    try_from_secs_f32(seconds: f32) = converted(Duration::try_from_secs_f32(seconds), seconds < 0.0)?;
+    mul_f64(secs: u64, nanos: u32, factor: f64) = duration(lent(secs, nanos)?.mul_f64(factor));
+    div_f64(secs: u64, nanos: u32, divisor: f64) = duration(lent(secs, nanos)?.div_f64(divisor));
+    mul_f32(secs: u64, nanos: u32, factor: f32) = duration(by_single(lent(secs, nanos)?, factor, Duration::mul_f32, Duration::mul_f64));
+    div_f32(secs: u64, nanos: u32, divisor: f32) = duration(by_single(lent(secs, nanos)?, divisor, Duration::div_f32, Duration::div_f64));
+
     sum(rows: *const Duration, rows_len: usize) = total(slice(rows, rows_len).iter().copied());
     sum_zipped(secs: *const u64, secs_len: usize, nanos: *const u32, nanos_len: usize) =
         total(slice(secs, secs_len).iter().zip(slice(nanos, nanos_len)).map(|(s, n)| Duration::new(*s, *n)));
+}
+
+/// The Rust's Debug into a lent buffer: the length, or 0 where it does not fit.
+pub mod text {
+    use super::lent;
+    use std::fmt::{Arguments, Error, Result, Write};
+
+    struct Fixed<'a> {
+        out: &'a mut [u8],
+        length: usize,
+    }
+
+    impl Write for Fixed<'_> {
+        #[inline]
+        fn write_str(&mut self, text: &str) -> Result {
+            let rest = &mut self.out[self.length..];
+            let place = rest.get_mut(..text.len()).ok_or(Error)?;
+            place.copy_from_slice(text.as_bytes());
+            self.length += text.len();
+            Ok(())
+        }
+    }
+
+    #[inline]
+    unsafe fn write(out: *mut u8, len: usize, text: Arguments) -> u32 {
+        let mut fixed = Fixed {
+            out: std::slice::from_raw_parts_mut(out, len),
+            length: 0,
+        };
+        match fixed.write_fmt(text) {
+            Ok(()) => fixed.length as u32,
+            Err(Error) => 0,
+        }
+    }
+
+    /// # Safety
+    /// `out` and `len` are those of one slice that nobody else holds.
+    #[inline(never)]
+    pub unsafe extern "C" fn plain(secs: u64, nanos: u32, out: *mut u8, len: usize) -> u32 {
+        match lent(secs, nanos) {
+            Ok(d) => write(out, len, format_args!("{d:?}")),
+            Err(_) => 0,
+        }
+    }
+
+    /// # Safety
+    /// `out` and `len` are those of one slice that nobody else holds.
+    #[inline(never)]
+    pub unsafe extern "C" fn padded(
+        secs: u64,
+        nanos: u32,
+        precision: usize,
+        width: usize,
+        out: *mut u8,
+        len: usize,
+    ) -> u32 {
+        match lent(secs, nanos) {
+            Ok(d) => write(out, len, format_args!("{d:>width$.precision$?}")),
+            Err(_) => 0,
+        }
+    }
 }
 
 /// Two-word arithmetic by Rust's u128.

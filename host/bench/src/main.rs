@@ -4,6 +4,8 @@
 
 mod arithmetic;
 mod clock;
+mod floats;
+mod texts;
 
 use clock::Clock;
 use judge::Rng;
@@ -113,6 +115,8 @@ fn main() {
     constants(&mut clock);
     parts(&mut clock);
     arithmetic::rows(&mut clock);
+    floats::rows(&mut clock);
+    texts::rows(&mut clock);
     two_words(&mut clock);
     if clock.rows == 0 {
         eprintln!("no row has that name: leave out --only to run all");

@@ -1,11 +1,15 @@
 //! Feeds the library and the oracle the same inputs and compares the returned number and every byte.
 //!
 //! `compare [--quick] [--seed N] [--only NAME]`: `--quick` runs a tenth, `--only` the suites whose name holds NAME.
+//! `compare --all-f32`: every f32 into a duration and nothing else, a minute or more.
 
+mod floats;
 mod options;
+mod patterns;
 mod shapes;
 mod suites;
 mod sums;
+mod texts;
 mod trial;
 mod wrapper;
 
@@ -24,6 +28,9 @@ fn main() -> ExitCode {
     };
     judge::quiet();
     println!("judge: {}", oracle::SOURCE);
+    if options.all_f32 {
+        return all_f32();
+    }
     println!("seed: {}", options.seed);
 
     let shapes = Shapes::new();
@@ -57,4 +64,17 @@ fn main() -> ExitCode {
     }
     println!("{passed} suites passed, 0 failed");
     ExitCode::SUCCESS
+}
+
+fn all_f32() -> ExitCode {
+    match patterns::run() {
+        Ok(count) => {
+            println!("{count} f32 patterns, 0 differences");
+            ExitCode::SUCCESS
+        }
+        Err(difference) => {
+            println!("{difference}");
+            ExitCode::FAILURE
+        }
+    }
 }

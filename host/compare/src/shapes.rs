@@ -1,5 +1,6 @@
 //! Random inputs of several shapes: uniform, of any bit length, near multiples, at the edges, and bad ones.
 
+use judge::floats::{Format, DOUBLE, SINGLE};
 use judge::{edges, Rng};
 
 const GIGA: u64 = 1_000_000_000;
@@ -14,6 +15,8 @@ pub struct Shapes {
     pub factors: Vec<u32>,
     pub wides: Vec<u128>,
     pub shifts: Vec<u32>,
+    pub doubles: Vec<u64>,
+    pub singles: Vec<u64>,
 }
 
 impl Shapes {
@@ -25,6 +28,8 @@ impl Shapes {
             factors: edges::factors(),
             wides: edges::wides(),
             shifts: edges::shifts(),
+            doubles: DOUBLE.few(),
+            singles: SINGLE.few(),
         }
     }
 
@@ -148,6 +153,58 @@ impl Shapes {
             _ => self.word(rng),
         };
         (count, unit as u32)
+    }
+
+    /// Seconds often in the middle of two floats of either width, or next to it.
+    pub fn between(&self, rng: &mut Rng) -> Pair {
+        if rng.below(2) == 0 {
+            return self.pair(rng);
+        }
+        let bits = rng.pick(&[25, 54]);
+        let middle = (rng.wide_of_length(bits) as u64 | 1) << rng.below(65 - u64::from(bits));
+        let few = rng.below(1 << 10);
+        let off = rng.pick(&[0, 0, 1, u64::MAX, few]);
+        (middle.wrapping_add(off), self.nanos(rng))
+    }
+
+    pub fn two_between(&self, rng: &mut Rng) -> (Pair, Pair) {
+        match rng.below(16) {
+            0 => (self.between(rng), (0, 0)),
+            1 => self.two_pairs(rng),
+            _ => (self.between(rng), self.between(rng)),
+        }
+    }
+
+    /// A duration and a factor or divisor: any bits, one that takes the seconds to 2^64, a tie for one second, the ends.
+    pub fn times_double(&self, rng: &mut Rng) -> (Pair, u64) {
+        self.times(rng, &DOUBLE, &self.doubles, |factor| factor.to_bits())
+    }
+
+    pub fn times_single(&self, rng: &mut Rng) -> (Pair, u64) {
+        self.times(rng, &SINGLE, &self.singles, |factor| {
+            (factor as f32).to_bits().into()
+        })
+    }
+
+    fn times(
+        &self,
+        rng: &mut Rng,
+        format: &Format,
+        few: &[u64],
+        bits: impl Fn(f64) -> u64,
+    ) -> (Pair, u64) {
+        let (secs, nanos) = self.pair(rng);
+        let far = 2f64.powi(64) / secs.max(1) as f64;
+        let near = 1.0 + (rng.below(65) as f64 - 32.0) / 2f64.powi(52);
+        match rng.below(8) {
+            0 | 1 => ((secs, nanos), format.any(rng)),
+            2 => ((secs, nanos), format.ordinary(rng)),
+            3 => ((secs, nanos), bits(far * near)),
+            4 => ((secs, nanos), bits(near / far)),
+            5 => ((1 << rng.below(20), 0), format.seconds(rng)),
+            6 => ((0, nanos), format.any(rng)),
+            _ => ((secs, nanos), rng.pick(few)),
+        }
     }
 
     pub fn wide(&self, rng: &mut Rng) -> u128 {

@@ -2,7 +2,7 @@
 
 use crate::shapes::Shapes;
 use crate::trial::{Outcome, Trial};
-use crate::{sums, wrapper};
+use crate::{floats, sums, texts, wrapper};
 use judge::edges::cross;
 use judge::{salt, wide};
 use saltribbon::raw;
@@ -36,6 +36,9 @@ pub fn all() -> Vec<Suite> {
     suites.extend(constructors_and_parts());
     suites.extend(arithmetic());
     suites.push(suite("salt_sum", &[0, 3, 6, 7, 9], 2_000, sums::run));
+    suites.extend(floats_out());
+    suites.extend(floats_in());
+    suites.push(suite("salt_fmt", &[0, 8, 9, 10], 0, texts::run));
     suites.push(suite("wrapper", &[], 0, wrapper::run));
     suites
 }
@@ -200,6 +203,52 @@ fn arithmetic() -> Vec<Suite> {
         }),
         suite("salt_checked_div", &[0, 5, 9, 10], 0, |t| {
             t.scaled(raw::checked_div, salt::checked_div)
+        }),
+    ]
+}
+
+fn floats_out() -> Vec<Suite> {
+    vec![
+        suite("salt_as_secs_f64", &[0, 9, 10], 0, |t| {
+            floats::out(t, raw::as_secs_f64, salt::as_secs_f64)
+        }),
+        suite("salt_as_secs_f32", &[0, 9, 10], 0, |t| {
+            floats::out(t, raw::as_secs_f32, salt::as_secs_f32)
+        }),
+        suite("salt_as_millis_f64", &[0, 9, 10], 0, |t| {
+            floats::out(t, raw::as_millis_f64, salt::as_millis_f64)
+        }),
+        suite("salt_as_millis_f32", &[0, 9, 10], 0, |t| {
+            floats::out(t, raw::as_millis_f32, salt::as_millis_f32)
+        }),
+        suite("salt_div_duration_f64", &[0, 9, 10], 0, |t| {
+            t.binary(Shapes::two_between, raw::div_duration_f64, |a, b, _| {
+                salt::div_duration_f64(a, b)
+            })
+        }),
+        suite("salt_div_duration_f32", &[0, 9, 10], 0, |t| {
+            t.binary(Shapes::two_between, raw::div_duration_f32, |a, b, _| {
+                salt::div_duration_f32(a, b)
+            })
+        }),
+    ]
+}
+
+fn floats_in() -> Vec<Suite> {
+    vec![
+        suite("salt_try_from_secs_f64", &[0, 1, 2, 9], 0, floats::double),
+        suite("salt_try_from_secs_f32", &[0, 1, 2, 9], 0, floats::single),
+        suite("salt_mul_f64", &[0, 1, 2, 9, 10], 2_000, |t| {
+            floats::by_double(t, raw::mul_f64, salt::mul_f64)
+        }),
+        suite("salt_div_f64", &[0, 1, 2, 9, 10], 2_000, |t| {
+            floats::by_double(t, raw::div_f64, salt::div_f64)
+        }),
+        suite("salt_mul_f32", &[0, 1, 2, 9, 10], 2_000, |t| {
+            floats::by_single(t, raw::mul_f32, salt::mul_f32)
+        }),
+        suite("salt_div_f32", &[0, 1, 2, 9, 10], 2_000, |t| {
+            floats::by_single(t, raw::div_f32, salt::div_f32)
         }),
     ]
 }

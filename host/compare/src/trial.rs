@@ -12,13 +12,15 @@ use std::fmt::{self, Debug, Display};
 /// Longest buffer that is lent.
 const LONGEST: usize = 40;
 /// Bytes around the lent ones, at least, on either side.
-const GUARD: usize = 16;
+pub const GUARD: usize = 16;
 /// All bytes of a case: the lent part begins at any of eight places.
 const SPAN: usize = GUARD + 7 + LONGEST + GUARD + 1;
 /// Guard words on either side of a door's four.
 const WORDS: usize = 4;
 /// The Rust's panic is met for real in one of so many random cases, and in all those at the edges.
 const WATCH: u64 = 16;
+/// Random cases of a function, where it does not ask for more.
+const RANDOM: u64 = 2_000_000;
 
 /// The first case that differs, in words.
 pub struct Difference(String);
@@ -42,7 +44,7 @@ pub struct Trial<'a> {
     pub rng: Rng,
     pub shapes: &'a Shapes,
     pub cases: u64,
-    quick: bool,
+    pub quick: bool,
     panics_before: u64,
     /// Bit n is set once the number n was expected.
     numbers: u32,
@@ -122,6 +124,25 @@ impl<'a> Trial<'a> {
         }
     }
 
+    /// Random bytes, for a buffer with its guards.
+    pub fn filled<const N: usize>(&mut self) -> [u8; N] {
+        let from = self.rng.below((self.pool.len() - N) as u64) as usize;
+        let mut bytes = [0; N];
+        bytes.copy_from_slice(&self.pool[from..from + N]);
+        bytes
+    }
+
+    /// Where the lent part begins: at any of eight places behind the guard.
+    pub fn front(&mut self) -> usize {
+        GUARD + self.rng.below(8) as usize
+    }
+
+    /// One case more, whose expected number is this.
+    pub fn met(&mut self, number: u32) {
+        self.cases += 1;
+        self.numbers |= 1 << number;
+    }
+
     /// One call with `length` lent bytes between guards: the number and every byte must be as expected.
     pub fn case<I: Debug>(
         &mut self,
@@ -130,11 +151,8 @@ impl<'a> Trial<'a> {
         length: usize,
         call: impl FnOnce(&mut [u8]) -> u32,
     ) -> Outcome {
-        let place = self.rng.word() as usize;
-        let from = (place >> 8) % (self.pool.len() - SPAN);
-        let front = GUARD + place % 8;
-        let mut expected = [0; SPAN];
-        expected.copy_from_slice(&self.pool[from..from + SPAN]);
+        let front = self.front();
+        let mut expected: [u8; SPAN] = self.filled();
         let mut found = expected;
         let number = match want {
             Err(refusal) => refusal,
@@ -145,16 +163,11 @@ impl<'a> Trial<'a> {
             }
         };
         let returned = call(&mut found[front..front + length]);
-        self.cases += 1;
-        self.numbers |= 1 << number;
+        self.met(number);
         if returned == number && found == expected {
             return Ok(());
         }
-        let show = |bytes: [u8; SPAN]| {
-            let (before, rest) = bytes.split_at(front);
-            let (lent, after) = rest.split_at(length);
-            format!("{} | {} | {}", hex(before), hex(lent), hex(after))
-        };
+        let show = |bytes: [u8; SPAN]| parts(&bytes, front, length);
         Err(Difference(format!(
             "{} {input:?} with {length} bytes lent (guard | lent | guard)\nexpected {number:>2}: {}\nfound    {returned:>2}: {}",
             self.name,
@@ -164,8 +177,20 @@ impl<'a> Trial<'a> {
     }
 
     /// The heart of every driver: each edge with each length of buffer, then random inputs with random ones.
-    fn each<I: Copy + Debug>(
+    pub fn each<I: Copy + Debug>(
         &mut self,
+        edges: Vec<I>,
+        random: impl Fn(&Shapes, &mut Rng) -> I,
+        call: impl Fn(I, &mut [u8]) -> u32,
+        judge: impl Fn(I, bool) -> Answer,
+    ) -> Outcome {
+        self.each_of(RANDOM, edges, random, call, judge)
+    }
+
+    /// The same with so many random inputs.
+    pub fn each_of<I: Copy + Debug>(
+        &mut self,
+        count: u64,
         edges: Vec<I>,
         random: impl Fn(&Shapes, &mut Rng) -> I,
         call: impl Fn(I, &mut [u8]) -> u32,
@@ -178,7 +203,7 @@ impl<'a> Trial<'a> {
                 self.case(input, want, length, |out| call(input, out))?;
             }
         }
-        for turn in 0..self.share(2_000_000) {
+        for turn in 0..self.share(count) {
             let input = random(self.shapes, &mut self.rng);
             let want = judge(input, turn % WATCH == 0);
             let length = self.length();
@@ -320,8 +345,7 @@ impl<'a> Trial<'a> {
         };
         let out = found[WORDS..WORDS + 4].as_mut_array().expect("four words");
         let returned = call(input, out);
-        self.cases += 1;
-        self.numbers |= 1 << number;
+        self.met(number);
         if returned == number && found == expected {
             return Ok(());
         }
@@ -330,6 +354,13 @@ impl<'a> Trial<'a> {
             self.name
         )))
     }
+}
+
+/// The bytes of a case: those before the lent ones, the lent ones, those after.
+pub fn parts(bytes: &[u8], front: usize, length: usize) -> String {
+    let (before, rest) = bytes.split_at(front);
+    let (lent, after) = rest.split_at(length);
+    format!("{} | {} | {}", hex(before), hex(lent), hex(after))
 }
 
 fn hex(bytes: &[u8]) -> String {

@@ -2,7 +2,7 @@
 
 use crate::trial::{Difference, Outcome, Trial};
 use judge::{Answer, Image};
-use saltribbon::{raw, Duration, Refusal};
+use saltribbon::{raw, Align, Duration, Options, Refusal};
 use std::fmt::Debug;
 
 /// The table of refusals, written out once more.
@@ -56,16 +56,19 @@ pub fn run(trial: &mut Trial) -> Outcome {
         arithmetic(trial, a, b)?;
         scaled(trial, a)?;
         sum(trial)?;
+        floats_out(trial, a, b)?;
+        floats_in(trial, a)?;
+        text(trial, a)?;
     }
     Ok(())
 }
 
-fn same(
+fn same<T: Debug + PartialEq>(
     trial: &mut Trial,
     method: &str,
     input: impl Debug,
-    wrapper: Answer,
-    raw: Answer,
+    wrapper: Result<T, u32>,
+    raw: Result<T, u32>,
 ) -> Outcome {
     trial.cases += 1;
     if wrapper == raw {
@@ -225,6 +228,86 @@ fn scaled(trial: &mut Trial, d: Duration) -> Outcome {
     one("checked_div", d.checked_div(by), raw::checked_div)
 }
 
+fn floats_out(trial: &mut Trial, a: Duration, b: Duration) -> Outcome {
+    let mut one = |name, wrapper, call: fn(u64, u32, &mut [u8]) -> u32| {
+        let raw = asked(|out| call(a.secs, a.nanos, out));
+        same(trial, name, a, wrapper, raw)
+    };
+    one(
+        "as_secs_f64",
+        of(a.as_secs_f64(), Image::image),
+        raw::as_secs_f64,
+    )?;
+    one(
+        "as_secs_f32",
+        of(a.as_secs_f32(), Image::image),
+        raw::as_secs_f32,
+    )?;
+    one(
+        "as_millis_f64",
+        of(a.as_millis_f64(), Image::image),
+        raw::as_millis_f64,
+    )?;
+    one(
+        "as_millis_f32",
+        of(a.as_millis_f32(), Image::image),
+        raw::as_millis_f32,
+    )?;
+    let mut one = |name, wrapper, call: fn(u64, u32, u64, u32, &mut [u8]) -> u32| {
+        let raw = asked(|out| call(a.secs, a.nanos, b.secs, b.nanos, out));
+        same(trial, name, (a, b), wrapper, raw)
+    };
+    one(
+        "div_duration_f64",
+        of(a.div_duration_f64(b), Image::image),
+        raw::div_duration_f64,
+    )?;
+    one(
+        "div_duration_f32",
+        of(a.div_duration_f32(b), Image::image),
+        raw::div_duration_f32,
+    )
+}
+
+fn floats_in(trial: &mut Trial, d: Duration) -> Outcome {
+    let (_, bits) = trial.shapes.times_double(&mut trial.rng);
+    let (double, (secs, nanos)) = (f64::from_bits(bits), (d.secs, d.nanos));
+    let mut one = |name, answer, raw| same(trial, name, (d, double), of(answer, bytes), raw);
+    one(
+        "try_from_secs_f64",
+        Duration::try_from_secs_f64(double),
+        asked(|out| raw::try_from_secs_f64(double, out)),
+    )?;
+    one(
+        "mul_f64",
+        d.mul_f64(double),
+        asked(|out| raw::mul_f64(secs, nanos, double, out)),
+    )?;
+    one(
+        "div_f64",
+        d.div_f64(double),
+        asked(|out| raw::div_f64(secs, nanos, double, out)),
+    )?;
+    let (_, bits) = trial.shapes.times_single(&mut trial.rng);
+    let single = f32::from_bits(bits as u32);
+    let mut one = |name, answer, raw| same(trial, name, (d, single), of(answer, bytes), raw);
+    one(
+        "try_from_secs_f32",
+        Duration::try_from_secs_f32(single),
+        asked(|out| raw::try_from_secs_f32(single, out)),
+    )?;
+    one(
+        "mul_f32",
+        d.mul_f32(single),
+        asked(|out| raw::mul_f32(secs, nanos, single, out)),
+    )?;
+    one(
+        "div_f32",
+        d.div_f32(single),
+        asked(|out| raw::div_f32(secs, nanos, single, out)),
+    )
+}
+
 /// Numbers in the wrapper, the same numbers as bytes in the raw function.
 fn sum(trial: &mut Trial) -> Outcome {
     let count = trial.rng.below(6);
@@ -238,4 +321,51 @@ fn sum(trial: &mut Trial) -> Outcome {
     let raw = asked(|out| raw::sum(&secs_bytes, &nanos_bytes, first, end, out));
     let answer = of(Duration::sum(&secs, &nanos, first..end), bytes);
     same(trial, "sum", (secs, nanos, first..end), answer, raw)
+}
+
+/// The builder's options against their numbers: the same text in the buffer and as a value, or the same refusal.
+fn text(trial: &mut Trial, d: Duration) -> Outcome {
+    let rng = &mut trial.rng;
+    let (plus, align) = (rng.below(2), rng.below(4));
+    let (precision, width) = (rng.below(260) as i64 - 1, rng.below(260) as i64 - 1);
+    let fill = rng.below(130);
+    let room = rng.below(400) as usize;
+    let mut options = Options::new().fill(fill as u8);
+    if plus == 1 {
+        options = options.plus();
+    }
+    if let Ok(digits) = u32::try_from(precision) {
+        options = options.precision(digits);
+    }
+    if let Ok(characters) = u32::try_from(width) {
+        options = options.width(characters);
+    }
+    let aligns = [Align::Left, Align::Centre, Align::Right];
+    if let Some(align) = (align as usize).checked_sub(1) {
+        options = options.align(aligns[align]);
+    }
+    let numbers = [plus as i64, precision, width, align as i64, fill as i64];
+    let (mut raw_out, mut out, mut long) = ([7; 400], [7; 400], [7; 400]);
+    let returned = raw::fmt(d.secs, d.nanos, numbers, &mut raw_out[..room]);
+    let raw = string(returned, &raw_out);
+    let written = d.write(&options, &mut out[..room]);
+    let written = written.map(str::to_string).map_err(Refusal::number);
+    same(trial, "write", (d, options, room), written, raw)?;
+    let returned = raw::fmt(d.secs, d.nanos, numbers, &mut long);
+    let raw = string(returned, &long);
+    let shown = d.text(&options).map(|text| text.to_string());
+    same(
+        trial,
+        "text",
+        (d, options),
+        shown.map_err(Refusal::number),
+        raw,
+    )
+}
+
+fn string(returned: i64, out: &[u8]) -> Result<String, u32> {
+    match usize::try_from(returned) {
+        Ok(length) => Ok(String::from_utf8_lossy(&out[..length]).into_owned()),
+        Err(_) => Err(returned.unsigned_abs() as u32),
+    }
 }

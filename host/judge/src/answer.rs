@@ -6,11 +6,14 @@ use std::cmp::Ordering;
 /// The sixteen bytes, low byte first, or the refusal. Room is not decided here, since it is checked last.
 pub type Answer = Result<u128, u32>;
 
+pub const NEGATIVE: u32 = 1;
+pub const OVERFLOW_OR_NAN: u32 = 2;
 pub const OVERFLOW: u32 = 3;
 pub const UNDERFLOW: u32 = 4;
 pub const ZERO_DIVISOR: u32 = 5;
 pub const BAD_ROW: u32 = 6;
 pub const BAD_RANGE: u32 = 7;
+pub const BAD_OPTIONS: u32 = 8;
 pub const NO_ROOM: u32 = 9;
 pub const BAD_DURATION: u32 = 10;
 pub const BAD_UNIT: u32 = 11;
@@ -48,6 +51,30 @@ impl Image for Ordering {
 impl Image for u128 {
     fn image(self) -> u128 {
         self
+    }
+}
+
+/// The bits. Every NaN is the one that the library writes.
+impl Image for f64 {
+    fn image(self) -> u128 {
+        let nan = 0x7FF8_0000_0000_0000;
+        if self.is_nan() {
+            nan
+        } else {
+            self.to_bits().into()
+        }
+    }
+}
+
+/// The bits. Every NaN is the one that the library writes.
+impl Image for f32 {
+    fn image(self) -> u128 {
+        let nan = 0x7FC0_0000;
+        if self.is_nan() {
+            nan
+        } else {
+            self.to_bits().into()
+        }
     }
 }
 

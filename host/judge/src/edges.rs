@@ -1,5 +1,7 @@
 //! The inputs at which an answer changes, and their neighbours.
 
+const GIGA: u64 = 1_000_000_000;
+
 /// N of the longest duration.
 pub const MAX_NANOS: u128 = u64::MAX as u128 * 1_000_000_000 + 999_999_999;
 
@@ -15,7 +17,7 @@ pub const UNIT_LIMITS: [u64; 8] = [
     30_500_568_904_943,
 ];
 
-fn sorted<T: Ord>(mut list: Vec<T>) -> Vec<T> {
+pub(crate) fn sorted<T: Ord>(mut list: Vec<T>) -> Vec<T> {
     list.sort_unstable();
     list.dedup();
     list
@@ -181,6 +183,26 @@ pub fn few_nanos() -> [u32; 12] {
         2_000_000_000,
         u32::MAX,
     ]
+}
+
+/// Durations to print: each unit's edges, all nines, and ties of every digit with their neighbours, for all four units.
+pub fn printed() -> Vec<(u64, u32)> {
+    let mut nanos = nanos();
+    for digit in 1..10 {
+        let (whole, half) = (10u64.pow(digit), 5 * 10u64.pow(digit - 1));
+        let fronts = GIGA / whole;
+        for front in [0, 1, 2, 9, 10, 19, 99, fronts / 2, fronts - 2, fronts - 1] {
+            let tie = front.min(fronts - 1) * whole + half;
+            nanos.extend([tie - 1, tie, tie + 1].map(|n| n as u32));
+        }
+        nanos.extend([whole - 1, GIGA - whole, whole].map(|n| n as u32));
+    }
+    nanos.retain(|n| u64::from(*n) < GIGA);
+    let secs = [0, 1, 2, 9, 99, u64::MAX - 1, u64::MAX];
+    let tens = (1..20).flat_map(|k| [10u64.pow(k) - 1, 10u64.pow(k)]);
+    let mut list = cross(&secs, &nanos);
+    list.extend(tens.flat_map(|secs| [(secs, 0), (secs, 500_000_000), (secs, 999_999_999)]));
+    sorted(list)
 }
 
 /// Every first with every second.

@@ -2,8 +2,8 @@
 
 use crate::panics::or_panic;
 use crate::{edges, lent, Answer, Image, BAD_RANGE, BAD_ROW, BAD_UNIT};
-use crate::{OVERFLOW, UNDERFLOW, ZERO_DIVISOR};
-use oracle::Duration;
+use crate::{NEGATIVE, OVERFLOW, OVERFLOW_OR_NAN, UNDERFLOW, ZERO_DIVISOR};
+use oracle::{Duration, TryFromFloatSecsError};
 
 pub const SECOND: Duration = Duration::SECOND;
 pub const MILLISECOND: Duration = Duration::MILLISECOND;
@@ -135,4 +135,81 @@ pub fn sum(secs: &[u8], nanos: &[u8], first: u64, end: u64, watch: bool) -> Answ
     or_panic(OVERFLOW, total > edges::MAX_NANOS, watch, || {
         rows.iter().sum::<Duration>()
     })
+}
+
+pub fn as_secs_f64(d: Duration) -> Answer {
+    Ok(d.as_secs_f64().image())
+}
+
+pub fn as_secs_f32(d: Duration) -> Answer {
+    Ok(d.as_secs_f32().image())
+}
+
+pub fn as_millis_f64(d: Duration) -> Answer {
+    Ok(d.as_millis_f64().image())
+}
+
+pub fn as_millis_f32(d: Duration) -> Answer {
+    Ok(d.as_millis_f32().image())
+}
+
+pub fn div_duration_f64(a: Duration, b: Duration) -> Answer {
+    Ok(a.div_duration_f64(b).image())
+}
+
+pub fn div_duration_f32(a: Duration, b: Duration) -> Answer {
+    Ok(a.div_duration_f32(b).image())
+}
+
+pub fn try_from_secs_f64(seconds: f64) -> Answer {
+    Duration::try_from_secs_f64(seconds)
+        .map(Image::image)
+        .map_err(refused)
+}
+
+pub fn try_from_secs_f32(seconds: f32) -> Answer {
+    Duration::try_from_secs_f32(seconds)
+        .map(Image::image)
+        .map_err(refused)
+}
+
+/// The Rust keeps the kind of its error to itself; the one for -1 s is known.
+fn refused(error: TryFromFloatSecsError) -> u32 {
+    match Duration::try_from_secs_f64(-1.0) {
+        Err(negative) if negative == error => NEGATIVE,
+        _ => OVERFLOW_OR_NAN,
+    }
+}
+
+pub fn mul_f64(d: Duration, factor: f64, watch: bool) -> Answer {
+    let seconds = factor * d.as_secs_f64();
+    of_seconds(seconds, watch, || d.mul_f64(factor))
+}
+
+pub fn div_f64(d: Duration, divisor: f64, watch: bool) -> Answer {
+    let seconds = d.as_secs_f64() / divisor;
+    of_seconds(seconds, watch, || d.div_f64(divisor))
+}
+
+pub fn mul_f32(d: Duration, factor: f32, watch: bool) -> Answer {
+    if !oracle::GIVEN {
+        return mul_f64(d, factor.into(), watch);
+    }
+    let seconds = f64::from(factor) * d.as_secs_f64();
+    of_seconds(seconds, watch, || d.mul_f32(factor))
+}
+
+pub fn div_f32(d: Duration, divisor: f32, watch: bool) -> Answer {
+    if !oracle::GIVEN {
+        return div_f64(d, divisor.into(), watch);
+    }
+    let seconds = d.as_secs_f64() / f64::from(divisor);
+    of_seconds(seconds, watch, || d.div_f32(divisor))
+}
+
+/// The value is the Rust's own. Where it panics, its conversion of the same seconds says which refusal that is.
+fn of_seconds(seconds: f64, watch: bool, value: impl FnOnce() -> Duration) -> Answer {
+    let refusal = try_from_secs_f64(seconds).err();
+    let number = refusal.unwrap_or(OVERFLOW_OR_NAN);
+    or_panic(number, refusal.is_some(), watch, value)
 }

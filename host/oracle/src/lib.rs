@@ -34,6 +34,10 @@ pub use core::time::{Duration, TryFromFloatSecsError};
 #[cfg_attr(given, stable(feature = "duration_core", since = "1.25.0"))]
 pub const SOURCE: &str = env!("ORACLE_SOURCE");
 
+/// Whether the given time.rs judges. The compiler's own may multiply and divide by an f32 in f32, as that of 1.95 does.
+#[cfg_attr(given, stable(feature = "duration_core", since = "1.25.0"))]
+pub const GIVEN: bool = cfg!(given);
+
 #[cfg(given)]
 mod pad;
 

@@ -16,7 +16,7 @@ fn ask(call: impl FnOnce(&mut [u8]) -> u32) -> Result<u128, Refusal> {
     let mut out = [0; 16];
     match call(&mut out) {
         0 => Ok(u128::from_le_bytes(out)),
-        number => Err(Refusal::from_number(number).expect("the library gives known numbers only")),
+        number => Err(Refusal::known(number)),
     }
 }
 
@@ -223,5 +223,71 @@ impl Duration {
         // SAFETY: every byte of a number is a byte, and on this machine the low one comes first, as the library reads.
         let (secs, nanos) = unsafe { (secs.align_to().1, nanos.align_to().1) };
         ask_duration(|out| raw::sum(secs, nanos, rows.start, rows.end, out))
+    }
+}
+
+/// Floats out. A quotient over zero is infinity, or NaN for zero over zero.
+impl Duration {
+    pub fn as_secs_f64(self) -> Result<f64, Refusal> {
+        ask(|out| raw::as_secs_f64(self.secs, self.nanos, out)).map(double)
+    }
+
+    pub fn as_secs_f32(self) -> Result<f32, Refusal> {
+        ask(|out| raw::as_secs_f32(self.secs, self.nanos, out)).map(single)
+    }
+
+    pub fn as_millis_f64(self) -> Result<f64, Refusal> {
+        ask(|out| raw::as_millis_f64(self.secs, self.nanos, out)).map(double)
+    }
+
+    pub fn as_millis_f32(self) -> Result<f32, Refusal> {
+        ask(|out| raw::as_millis_f32(self.secs, self.nanos, out)).map(single)
+    }
+
+    pub fn div_duration_f64(self, other: Duration) -> Result<f64, Refusal> {
+        ask(|out| raw::div_duration_f64(self.secs, self.nanos, other.secs, other.nanos, out))
+            .map(double)
+    }
+
+    pub fn div_duration_f32(self, other: Duration) -> Result<f32, Refusal> {
+        ask(|out| raw::div_duration_f32(self.secs, self.nanos, other.secs, other.nanos, out))
+            .map(single)
+    }
+}
+
+fn double(words: u128) -> f64 {
+    f64::from_bits(words as u64)
+}
+
+fn single(words: u128) -> f32 {
+    f32::from_bits(words as u32)
+}
+
+/// Floats in. `Negative` below zero, where -0.0 is zero; `OverflowOrNan` for NaN and from 2^64 seconds on.
+impl Duration {
+    /// Rounded to the nearest nanosecond, half to even.
+    pub fn try_from_secs_f64(seconds: f64) -> Result<Duration, Refusal> {
+        ask_duration(|out| raw::try_from_secs_f64(seconds, out))
+    }
+
+    /// Rounded to the nearest nanosecond, half to even.
+    pub fn try_from_secs_f32(seconds: f32) -> Result<Duration, Refusal> {
+        ask_duration(|out| raw::try_from_secs_f32(seconds, out))
+    }
+
+    pub fn mul_f64(self, factor: f64) -> Result<Duration, Refusal> {
+        ask_duration(|out| raw::mul_f64(self.secs, self.nanos, factor, out))
+    }
+
+    pub fn div_f64(self, divisor: f64) -> Result<Duration, Refusal> {
+        ask_duration(|out| raw::div_f64(self.secs, self.nanos, divisor, out))
+    }
+
+    pub fn mul_f32(self, factor: f32) -> Result<Duration, Refusal> {
+        ask_duration(|out| raw::mul_f32(self.secs, self.nanos, factor, out))
+    }
+
+    pub fn div_f32(self, divisor: f32) -> Result<Duration, Refusal> {
+        ask_duration(|out| raw::div_f32(self.secs, self.nanos, divisor, out))
     }
 }

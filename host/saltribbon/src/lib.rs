@@ -4,6 +4,8 @@ mod duration;
 pub mod raw;
 mod refusal;
 mod sys;
+mod text;
 
 pub use duration::Duration;
 pub use refusal::Refusal;
+pub use text::{Align, Options, Text};

@@ -47,6 +47,20 @@ thin! {
     checked_mul = salt_checked_mul(secs: u64, nanos: u32, factor: u32);
     saturating_mul = salt_saturating_mul(secs: u64, nanos: u32, factor: u32);
     checked_div = salt_checked_div(secs: u64, nanos: u32, divisor: u32);
+
+    as_secs_f64 = salt_as_secs_f64(secs: u64, nanos: u32);
+    as_secs_f32 = salt_as_secs_f32(secs: u64, nanos: u32);
+    as_millis_f64 = salt_as_millis_f64(secs: u64, nanos: u32);
+    as_millis_f32 = salt_as_millis_f32(secs: u64, nanos: u32);
+    div_duration_f64 = salt_div_duration_f64(secs: u64, nanos: u32, secs2: u64, nanos2: u32);
+    div_duration_f32 = salt_div_duration_f32(secs: u64, nanos: u32, secs2: u64, nanos2: u32);
+
+    try_from_secs_f64 = salt_try_from_secs_f64(seconds: f64);
+    try_from_secs_f32 = salt_try_from_secs_f32(seconds: f32);
+    mul_f64 = salt_mul_f64(secs: u64, nanos: u32, factor: f64);
+    div_f64 = salt_div_f64(secs: u64, nanos: u32, divisor: f64);
+    mul_f32 = salt_mul_f32(secs: u64, nanos: u32, factor: f32);
+    div_f32 = salt_div_f32(secs: u64, nanos: u32, divisor: f32);
 }
 
 /// `salt_sum` over rows of eight and four bytes, low byte first: 0, or the refusal's number and an untouched buffer.
@@ -61,6 +75,27 @@ pub fn sum(secs: &[u8], nanos: &[u8], first: u64, end: u64, out: &mut [u8]) -> u
             nanos.len(),
             first,
             end,
+            out.as_mut_ptr(),
+            out.len(),
+        )
+    }
+}
+
+/// `salt_fmt`: the length, or the refusal's number negated and an untouched buffer. The options are the plus sign, the
+/// precision, the width, the alignment and the fill.
+#[inline]
+pub fn fmt(secs: u64, nanos: u32, options: [i64; 5], out: &mut [u8]) -> i64 {
+    let [plus, precision, width, align, fill] = options;
+    // SAFETY: the pointer and the length are those of one slice that nobody else holds.
+    unsafe {
+        sys::salt_fmt(
+            secs,
+            nanos,
+            plus,
+            precision,
+            width,
+            align,
+            fill,
             out.as_mut_ptr(),
             out.len(),
         )

@@ -57,6 +57,11 @@ impl Refusal {
             .into_iter()
             .find(|refusal| refusal.number() == number)
     }
+
+    /// The refusal behind a number that the library has just returned.
+    pub(crate) fn known(number: u32) -> Refusal {
+        Refusal::from_number(number).expect("the library gives known numbers only")
+    }
 }
 
 /// The name alone; it takes a width.

@@ -1,4 +1,5 @@
 //! The C functions as the archive has them. Each returns 0 or a refusal number; the lent buffer is a pointer and a length.
+//! The text function returns a length, or a refusal number negated.
 
 extern "C" {
     pub fn salt_new(secs: u64, nanos: u32, out: *mut u8, len: usize) -> u32;
@@ -102,4 +103,44 @@ extern "C" {
         out: *mut u8,
         len: usize,
     ) -> u32;
+
+    pub fn salt_as_secs_f64(secs: u64, nanos: u32, out: *mut u8, len: usize) -> u32;
+    pub fn salt_as_secs_f32(secs: u64, nanos: u32, out: *mut u8, len: usize) -> u32;
+    pub fn salt_as_millis_f64(secs: u64, nanos: u32, out: *mut u8, len: usize) -> u32;
+    pub fn salt_as_millis_f32(secs: u64, nanos: u32, out: *mut u8, len: usize) -> u32;
+    pub fn salt_div_duration_f64(
+        secs: u64,
+        nanos: u32,
+        secs2: u64,
+        nanos2: u32,
+        out: *mut u8,
+        len: usize,
+    ) -> u32;
+    pub fn salt_div_duration_f32(
+        secs: u64,
+        nanos: u32,
+        secs2: u64,
+        nanos2: u32,
+        out: *mut u8,
+        len: usize,
+    ) -> u32;
+
+    pub fn salt_try_from_secs_f64(seconds: f64, out: *mut u8, len: usize) -> u32;
+    pub fn salt_try_from_secs_f32(seconds: f32, out: *mut u8, len: usize) -> u32;
+    pub fn salt_mul_f64(secs: u64, nanos: u32, factor: f64, out: *mut u8, len: usize) -> u32;
+    pub fn salt_div_f64(secs: u64, nanos: u32, divisor: f64, out: *mut u8, len: usize) -> u32;
+    pub fn salt_mul_f32(secs: u64, nanos: u32, factor: f32, out: *mut u8, len: usize) -> u32;
+    pub fn salt_div_f32(secs: u64, nanos: u32, divisor: f32, out: *mut u8, len: usize) -> u32;
+
+    pub fn salt_fmt(
+        secs: u64,
+        nanos: u32,
+        plus: i64,
+        precision: i64,
+        width: i64,
+        align: i64,
+        fill: i64,
+        out: *mut u8,
+        len: usize,
+    ) -> i64;
 }

@@ -1,6 +1,6 @@
 //! The rows of the table, a family at a time. A later family is one more function in `all`.
 
-use saltribbon::{Duration, Refusal};
+use saltribbon::{Align, Duration, Options, Refusal};
 
 pub struct Row {
     pub asked: String,
@@ -8,10 +8,20 @@ pub struct Row {
 }
 
 pub fn all() -> Vec<Row> {
-    [units(), pairs(), counts(), order(), arithmetic(), sums()]
-        .into_iter()
-        .flatten()
-        .collect()
+    [
+        units(),
+        pairs(),
+        counts(),
+        order(),
+        arithmetic(),
+        sums(),
+        potentiometer(),
+        floats(),
+        texts(),
+    ]
+    .into_iter()
+    .flatten()
+    .collect()
 }
 
 fn row(asked: impl Into<String>, answer: Result<String, Refusal>) -> Row {
@@ -148,5 +158,81 @@ fn sums() -> Vec<Row> {
         sum("steps 0 to 2, one mistyped", &mistyped, 0..3),
         sum("step 2 alone of those", &mistyped, 2..3),
         sum("five of four steps", &nanos, 0..5),
+    ]
+}
+
+/// What an old table holds for a potentiometer: seconds as a float, -1 where none is fitted.
+fn potentiometer() -> Vec<Row> {
+    let double = [
+        ("release", 0.25),
+        ("hold-off, not fitted", -1.0),
+        ("ramp, never set", f64::NAN),
+        ("ramp, garbled", 1e300),
+        ("pause, a signed zero", -0.0),
+        ("debounce", 0.001),
+    ];
+    let single = [("debounce", 0.001), ("hold-off, not fitted", -1.0)];
+    let double = double.map(|(name, seconds)| {
+        let answer = Duration::try_from_secs_f64(seconds).and_then(time);
+        row(format!("{name}: {seconds:?} as f64"), answer)
+    });
+    let single = single.map(|(name, seconds)| {
+        let answer = Duration::try_from_secs_f32(seconds).and_then(time);
+        row(format!("{name}: {seconds:?} as f32"), answer)
+    });
+    double.into_iter().chain(single).collect()
+}
+
+/// Times as floats, and scaled by them.
+fn floats() -> Vec<Row> {
+    let pair = |secs, nanos| Duration { secs, nanos };
+    let (ramp, pause) = (pair(2, 250_000_000), pair(0, 300_000_000));
+    let number = |asked, answer: Result<f64, Refusal>| row(asked, answer.map(|n| format!("{n:?}")));
+    let scaled = |asked, answer: Result<Duration, Refusal>| row(asked, answer.and_then(time));
+    vec![
+        number("2.25 s in seconds", ramp.as_secs_f64()),
+        number("2.25 s in milliseconds", ramp.as_millis_f64()),
+        number("2.25 s over 300 ms", ramp.div_duration_f64(pause)),
+        number("2.25 s over 0 s", ramp.div_duration_f64(pair(0, 0))),
+        scaled("2.25 s times 1.1", ramp.mul_f64(1.1)),
+        scaled("2.25 s over 1.1", ramp.div_f64(1.1)),
+        scaled("2.25 s times -1", ramp.mul_f64(-1.0)),
+        scaled("2.25 s over 0.0", ramp.div_f64(0.0)),
+    ]
+}
+
+/// Times as a display shows them.
+fn texts() -> Vec<Row> {
+    let (plain, right) = (Options::new(), Options::new().align(Align::Right));
+    let centre = plain.align(Align::Centre).width(7).fill(b'#');
+    let one = |asked, secs, nanos, options: Options| {
+        let text = Duration { secs, nanos }.text(&options);
+        row(asked, text.map(|text| text.to_string()))
+    };
+    vec![
+        one("2.25 s on a display", 2, 250_000_000, plain),
+        one("4.2 ms on a display", 0, 4_200_000, plain),
+        one(
+            "1.5 \u{b5}s in six columns, right",
+            0,
+            1_500,
+            right.width(6),
+        ),
+        one("1.5 s in the middle of seven", 1, 500_000_000, centre),
+        one("5 ns with three digits", 0, 5, plain.precision(3)),
+        one("3.5 s without digits", 3, 500_000_000, plain.precision(0)),
+        one(
+            "999.999999 ms without digits",
+            0,
+            999_999_999,
+            plain.precision(0),
+        ),
+        one("2.25 s with a sign", 2, 250_000_000, plain.plus()),
+        one(
+            "2.25 s with 256 digits",
+            2,
+            250_000_000,
+            plain.precision(256),
+        ),
     ]
 }
