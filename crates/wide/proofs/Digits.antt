@@ -1,15 +1,16 @@
 -- Two digits in a base B, and the same of two words. The base is a variable, since `omega` takes no number of more than 38 digits, and 2 ^ 128 has 39.
 -- Assumes nothing.
-use mathlib.Core.Path.{_≡_, refl, sym, ap}
-use mathlib.Core.Bool.{Bool, true, false}
+use mathlib.Core.Path.{_≡_, refl, sym, ap, _∙_}
+use mathlib.Core.Bool.{Bool, true, false, cond}
 use Prim.Native.Nat.{ℕ, suc, _+_, _*_, _^_, _-_, _≤_, _<_}
 use native.Mathlib.Nat.{mul-le-mul-right, lt-of-not-le, not-le-of-lt, le-of-lt}
 use native.Mathlib.Omega.{arith}
 use lib.Arith.{lt-of-le-ne}
-use lib.Dec.{ltb}
-use borrow.Author.Tests.{lt-ltb, le-ltb, ltb-true, ltb-false}
+use lib.Dec.{ltb, eqb}
+use borrow.Author.Tests.{lt-ltb, le-ltb, ltb-true, ltb-false, eq-eqb, ne-eqb, eqb-true, eqb-false}
 use Rattle.wide.specs.declared.Wide.{Wide}
-use Rattle.wide.specs.Wide.{wide}
+use Rattle.wide.specs.declared.Order.the-variants.{Less, Equal, Greater}
+use Rattle.wide.specs.Wide.{wide, order}
 
 -- two tests that go the same way
 same-test : (a b : ℕ) {c d : ℕ} → (a < b → c < d) → (b ≤ a → d ≤ c) → ltb a b ≡ ltb c d
@@ -90,3 +91,20 @@ leaves h k o b e = omega arith
 pub one-word : (x : Wide) → x .hi ≤ 0 → wide x ≡ x .lo
 unfolding wide
 one-word x z = omega arith
+
+-- two pairs whose tests agree both ways have the same order
+same-order : (a b c d : ℕ) → ltb a b ≡ ltb c d → ltb b a ≡ ltb d c → order a b ≡ order c d
+unfolding order
+same-order a b c d s t = λ i. cond (s i) Less (cond (t i) Greater Equal)
+
+-- the words that decide have the order of the numbers
+pub deciding-order : (x y : Wide) {p q : ℕ} → x .lo < 2 ^ 64 → y .lo < 2 ^ 64 → p ≡ cond (eqb (x .hi) (y .hi)) (x .lo) (x .hi) → q ≡ cond (eqb (y .hi) (x .hi)) (y .lo) (y .hi) → order p q ≡ order (wide x) (wide y)
+deciding-order x y {p} {q} a b e f = go (eqb (x .hi) (y .hi)) refl
+  where
+    go : (t : Bool) → eqb (x .hi) (y .hi) ≡ t → order p q ≡ order (wide x) (wide y)
+    go true t =
+        let h : x .hi ≡ y .hi = eqb-true (x .hi) (y .hi) t in
+        (λ i. order ((rw t at e) i) ((rw (eq-eqb (y .hi) (x .hi) (sym h)) at f) i)) ∙ same-order (x .lo) (y .lo) (wide x) (wide y) (below-low x y h) (below-low y x (sym h))
+    go false t =
+        let h : x .hi ≡ y .hi → ⊥ = eqb-false (x .hi) (y .hi) t in
+        (λ i. order ((rw t at e) i) ((rw (ne-eqb (y .hi) (x .hi) (λ z. h (sym z))) at f) i)) ∙ same-order (x .hi) (y .hi) (wide x) (wide y) (below-high x y h a b) (below-high y x (λ z. h (sym z)) b a)

@@ -1,7 +1,8 @@
 // Sums and differences of words, with what they pass on to the next word, and the order of two numbers.
 use super::Wide;
 ghost use mathlib.Core.Path.{_≡_};
-ghost use lib.Dec.{ltb};
+ghost use mathlib.Core.Bool.{cond};
+ghost use lib.Dec.{ltb, eqb};
 ghost use Prim.Native.Nat.{_+_, _*_, _^_, _≤_};
 ghost use Rattle.wide.specs.Wide.{wide};
 
@@ -63,4 +64,14 @@ pub fn below(x: Wide, y: Wide) -> bool
         return x.lo < y.lo;
     }
     x.hi < y.hi
+}
+
+// The word of a number that decides its order beside one of high word k: its high word h, or its low word l where the high ones agree.
+pub fn deciding(h: u64, k: u64, l: u64) -> u64
+    ensures { λ r. ⌜ r ≡ cond (eqb h k) l h ⌝ }
+{
+    if h == k {
+        return l;
+    }
+    h
 }

@@ -110,14 +110,16 @@ pub fn sub(x: Wide, y: Wide) -> WideAnswer
     WideAnswer::Is(Wide { hi: hi - over, lo })
 }
 
-// The order of x and y.
+// The order of x and y: that of two words, so that one test of three ways is left.
 pub fn compare(x: Wide, y: Wide) -> Order
     ensures { λ r. ⌜ r ≡ order (wide x) (wide y) ⌝ }
 {
-    if carry::below(x, y) {
+    let p = carry::deciding(x.hi, y.hi, x.lo);
+    let q = carry::deciding(y.hi, x.hi, y.lo);
+    if p < q {
         return Order::Less;
     }
-    if carry::below(y, x) {
+    if q < p {
         return Order::Greater;
     }
     Order::Equal
