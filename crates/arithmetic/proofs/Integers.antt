@@ -1,6 +1,6 @@
 -- Laws of the order, of products and shares by a whole number, and of what saturates. Assumes nothing.
 use mathlib.Core.Path.{_≡_, refl, sym, ap, _∙_}
-use Prim.Native.Nat.{ℕ, _+_, _*_, _-_, _/_, _%_, _^_, _≤_, _<_, min, max}
+use Prim.Native.Nat.{ℕ, _+_, _*_, _-_, _/_, _%_, _^_, _≤_, _<_}
 use native.Mathlib.Nat.{add-mul-div-right, add-comm, mul-comm, div-add-mod', div-lt-iff-lt-mul, div-le-self, mul-le-mul, mod-lt, lt-of-le-of-lt, pos-of-ne-zero}
 use native.Mathlib.Omega.{arith}
 use lib.Arith.{digits-lt}
@@ -27,26 +27,19 @@ module _ (a b : Duration) where
   pub less-secs : (a .secs ≡ b .secs → ⊥) → a .nanos < 10 ^ 9 → b .nanos < 10 ^ 9 → ltb (a .secs) (b .secs) ≡ ltb (N a) (N b)
   less-secs = high-test (10 ^ 9)
 
-  -- the longer less the shorter
-  pub apart-less : N a < N b → N b - N a ≡ max (N a) (N b) - min (N a) (N b)
-  apart-less h = omega arith
-
-  pub apart-more : N b ≤ N a → N a - N b ≡ max (N a) (N b) - min (N a) (N b)
-  apart-more h = omega arith
-
 -- ---- a product by its parts, with the carry of the nanoseconds
 pub product-below : {n k : ℕ} → n < 10 ^ 9 → k < 2 ^ 32 → n * k ≤ (10 ^ 9 - 1) * (2 ^ 32 - 1)
 product-below h l = mul-le-mul {n₂ = 10 ^ 9 - 1} {m₂ = 2 ^ 32 - 1} (omega arith) (omega arith)
 
-module _ (s n k : ℕ) {w : Wide} (e : w ≡ words (s * k + n * k / 10 ^ 9)) where
-  product-of : (w .hi * 2 ^ 64 + w .lo) * 10 ^ 9 + n * k % 10 ^ 9 ≡ (s * 10 ^ 9 + n) * k
+module _ (s n k : ℕ) {w : Wide} (e : w ≡ words (s * k)) where
+  product-of : (w .hi * 2 ^ 64 + w .lo + n * k / 10 ^ 9) * 10 ^ 9 + n * k % 10 ^ 9 ≡ (s * 10 ^ 9 + n) * k
   unfolding wide
-  product-of = let f : w .hi * 2 ^ 64 + w .lo ≡ s * k + n * k / 10 ^ 9 = ap wide e ∙ wide-words (s * k + n * k / 10 ^ 9) in omega arith
+  product-of = let f : w .hi * 2 ^ 64 + w .lo ≡ s * k = ap wide e ∙ wide-words (s * k) in omega arith
 
-  pub product-fits : w .hi ≡ 0 → w .lo * 10 ^ 9 + n * k % 10 ^ 9 ≡ (s * 10 ^ 9 + n) * k
+  pub product-fits : w .hi ≡ 0 → (w .lo + n * k / 10 ^ 9) * 10 ^ 9 + n * k % 10 ^ 9 ≡ (s * 10 ^ 9 + n) * k
   product-fits h = omega (arith, product-of)
 
-  pub product-over : 0 < w .hi → most < (s * 10 ^ 9 + n) * k
+  pub product-over : 2 ^ 64 ≤ w .hi * 2 ^ 64 + w .lo + n * k / 10 ^ 9 → most < (s * 10 ^ 9 + n) * k
   product-over h = omega (arith, product-of)
 
 -- ---- a share by its parts, with the seconds that are left over

@@ -2,27 +2,50 @@
 use mathlib.Core.Path.{_≡_, refl, sym, ap, _∙_}
 use mathlib.Core.Bool.{Bool, true, false, cond}
 use Prim.Native.Nat.{ℕ, _+_, _*_, _-_, _/_, _%_, _^_, _≤_, _<_}
-use native.Mathlib.Nat.{div-add-mod', mod-lt, div-le-self, div-lt-iff-lt-mul, lt-trans, add-zero, pos-of-ne-zero}
+use native.Mathlib.Nat.{div-add-mod', mod-lt, mod-le, div-le-self, div-lt-iff-lt-mul, lt-trans, add-zero, pos-of-ne-zero}
 use native.Mathlib.Omega.{arith}
 use lib.Arith.{digits-div}
 use lib.Dec.{eqb}
 use borrow.Author.Tests.{eq-eqb, ne-eqb, eqb-true, eqb-false}
 use Rattle.refusal.specs.declared.Refusal.{Refusal}
+use Rattle.refusal.specs.declared.Refusal.the-variants.{ZeroDivisor}
 use Rattle.wide.specs.declared.Wide.{Wide}
 use Rattle.wide.specs.declared.Division.{Division}
 use Rattle.wide.specs.declared.DivAnswer.the-variants.{Divided, Refused as NotDivided}
 use Rattle.wide.specs.declared.WideAnswer.{WideAnswer}
 use Rattle.wide.specs.declared.WideAnswer.the-variants as Wide
 use Rattle.wide.specs.Wide.{wide, words, answer, division}
-use Rattle.wide.proofs.Laws.{wide-words, words-of, answer-is, division-told, zero-divisor-told}
+use Rattle.wide.proofs.Laws.{wide-words, words-of, answer-is, division-is, division-zero, division-told, zero-divisor-told}
 use Rattle.duration.specs.declared.Duration.{Duration}
 use Rattle.duration.specs.Meaning.{N}
 use Rattle.arithmetic.specs.Arithmetic.{floorOf, ceilOf}
 use Rattle.duration.proofs.Valid.{is-valid}
 
--- a count of nanoseconds as two words, and back
-pub nanos-of : (d : Duration) {w : Wide} → w ≡ words (N d) → wide w ≡ N d
-nanos-of d e = ap wide e ∙ wide-words (N d)
+-- the division of two durations is that of their counts in two words
+pub of-counts : (a b : Duration) {n d : Wide} → n ≡ words (N a) → d ≡ words (N b) → division (wide n) (wide d) ≡ division (N a) (N b)
+of-counts a b e f = λ i. division ((ap wide e ∙ wide-words (N a)) i) ((ap wide f ∙ wide-words (N b)) i)
+
+-- a number of one word, by one of two, and by one of one
+module _ (n d : Wide) (h : n .hi ≡ 0) (b : n .lo < 2 ^ 64) where
+  pub by-longer : 0 < d .hi → Divided (record { quotient = record { hi = 0; lo = 0 }; remainder = n }) ≡ division (wide n) (wide d)
+  unfolding wide
+  by-longer k = division-is (wide n) (wide d) (record { quotient = record { hi = 0; lo = 0 }; remainder = n }) (omega arith) b (omega arith) (omega arith)
+
+  pub by-zero : d .hi ≡ 0 → d .lo ≡ 0 → NotDivided ZeroDivisor ≡ division (wide n) (wide d)
+  unfolding wide
+  by-zero k l = division-zero (wide n) (wide d) (omega arith)
+
+  pub by-word : d .hi ≡ 0 → (d .lo ≡ 0 → ⊥)
+      → Divided (record { quotient = record { hi = 0; lo = n .lo / d .lo }; remainder = record { hi = 0; lo = n .lo % d .lo } }) ≡ division (wide n) (wide d)
+  unfolding wide
+  by-word k l =
+      let p : 0 < d .lo = pos-of-ne-zero l in
+      let m : d .hi * 2 ^ 64 + d .lo ≡ d .lo = omega arith in
+      division-is (wide n) (wide d) (record { quotient = record { hi = 0; lo = n .lo / d .lo }; remainder = record { hi = 0; lo = n .lo % d .lo } })
+      (omega (arith, div-le-self (n .lo) (d .lo)))
+      (omega (arith, mod-le (n .lo) (d .lo)))
+      (rw m (omega (arith, div-add-mod' (n .lo) (d .lo))))
+      (rw m (omega (arith, mod-lt (n .lo) p)))
 
 -- whether two words are zero
 pub nothing-left : (w : Wide) → w .hi ≡ 0 → w .lo ≡ 0 → _≡_ {A = ℕ} 0 (cond (eqb (wide w) 0) 0 1)

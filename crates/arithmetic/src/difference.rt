@@ -1,7 +1,7 @@
 // The order of two valid durations, and what is between them.
 use duration::Duration;
 ghost use mathlib.Core.Path.{_≡_};
-ghost use Prim.Native.Nat.{_+_, _*_, _-_, _/_, _%_, _^_, _<_, _≤_};
+ghost use Prim.Native.Nat.{_+_, _*_, _-_, _/_, _%_, _^_, _<_, _≤_, min, max};
 ghost use lib.Dec.{ltb};
 ghost use Rattle.duration.specs.Meaning.{N, ofNanos};
 
@@ -14,6 +14,27 @@ pub fn less(a: Duration, b: Duration) -> bool
         return a.nanos < b.nanos;
     }
     a.secs < b.secs
+}
+
+// The longer of two: a choice that becomes no branch.
+pub fn longer(a: Duration, b: Duration) -> Duration
+    requires { ⌜ (a .nanos < 10 ^ 9) × (b .nanos < 10 ^ 9) ⌝ }
+    ensures { λ r. ⌜ (r .nanos < 10 ^ 9) × (N r ≡ max (N a) (N b)) ⌝ }
+{
+    if less(a, b) {
+        return b;
+    }
+    a
+}
+
+pub fn shorter(a: Duration, b: Duration) -> Duration
+    requires { ⌜ (a .nanos < 10 ^ 9) × (b .nanos < 10 ^ 9) ⌝ }
+    ensures { λ r. ⌜ (r .nanos < 10 ^ 9) × (N r ≡ min (N a) (N b)) ⌝ }
+{
+    if less(a, b) {
+        return a;
+    }
+    b
 }
 
 // a - b. A second is lent to the nanoseconds, and given back where there was no need of it.

@@ -59,13 +59,12 @@ pub fn abs_diff(a: Duration, b: Duration) -> Answer
     if 1_000_000_000 <= b.nanos {
         return Answer::Refused(Refusal::BadDuration);
     }
-    if difference::less(a, b) {
-        return Answer::Is(difference::minus(b, a));
-    }
-    Answer::Is(difference::minus(a, b))
+    let long = difference::longer(a, b);
+    let short = difference::shorter(a, b);
+    Answer::Is(difference::minus(long, short))
 }
 
-// The nanoseconds carry less than 2^32 seconds, and what passes a word is seen in the upper one.
+// The seconds pass a word by the product, or by what the nanoseconds carry.
 pub fn checked_mul(d: Duration, k: u32) -> Answer
     ensures { λ r. ⌜ r ≡ times d k ⌝ }
 {
@@ -73,12 +72,16 @@ pub fn checked_mul(d: Duration, k: u32) -> Answer
         return Answer::Refused(Refusal::BadDuration);
     }
     let nanos = d.nanos as u64 * k as u64;
-    let secs = wide::scaled(d.secs, k, (nanos / 1_000_000_000) as u32);
+    let carry = nanos / 1_000_000_000;
+    let secs = wide::widening_mul(d.secs, k as u64);
     if 0 < secs.hi {
         return Answer::Refused(Refusal::Overflow);
     }
+    if u64::MAX - secs.lo < carry {
+        return Answer::Refused(Refusal::Overflow);
+    }
     Answer::Is(Duration {
-        secs: secs.lo,
+        secs: secs.lo + carry,
         nanos: (nanos % 1_000_000_000) as u32,
     })
 }
