@@ -1,0 +1,2 @@
+-- What it is for a contract to be tight; `proofs` shows it of each public function.
+pub mod Tight
