@@ -1,13 +1,17 @@
 -- The order of checks chooses the first condition that holds. Assumes nothing.
 use mathlib.Core.Path.{_≡_, refl, sym, ap, _∙_}
-use mathlib.Core.Logic.{_↔_}
 use mathlib.Core.Bool.{Bool, true, false, cond, not, _&&_, _||_}
 use mathlib.Core.List.{List, [], _∷_, _++_, append-nil}
 use Prim.Native.Nat.{ℕ}
 use native.Mathlib.Omega.{arith}
 use borrow.Author.Tests.{eqb-false, ne-eqb, not-true}
 use lib.Dec.{eqb}
-use Rattle.rules.specs.Checks.{Grounds, any, holds, order, firstOf, Exactly, Answered}
+use Rattle.rules.specs.Refusals.{Grounds, any, holds, order, firstOf, Exactly, Answered}
+
+-- ---- a list of statements, one by one
+infixr 5 _also_
+pub _also_ : {A B : Type 0} → A → B → A × B
+_also_ a b = (a, b)
 
 -- ---- tests
 pub differ : {b : Bool} → b ≡ true → b ≡ false → ⊥

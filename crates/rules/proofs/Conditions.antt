@@ -1,5 +1,5 @@
 -- What the definitions test is what document 01 says, the other way round. Assumes nothing.
-use mathlib.Core.Path.{_≡_, refl, sym, ap, _∙_}
+use mathlib.Core.Path.{_≡_, refl, _∙_}
 use mathlib.Core.Bool.{Bool, true, false, not, _&&_, _||_}
 use mathlib.Core.List.{List, [], _∷_}
 use Prim.Native.Nat.{ℕ, _%_, _^_, _≤_, _<_}
@@ -13,8 +13,7 @@ use Rattle.text.specs.declared.Count.{Count}
 use Rattle.text.specs.declared.Count.the-variants.{Unset, Set}
 use Rattle.text.specs.declared.Options.{Options}
 use Rattle.text.specs.Options as Options
-use Rattle.rules.specs.Checks.{any}
-use Rattle.rules.specs.Table.{bad, above, badOptions}
+use Rattle.rules.specs.Refusals.{any, bad, above, badOptions}
 
 -- ---- numbers
 pub not-above : (m n : ℕ) → leb m n ≡ not (ltb n m)

@@ -5,13 +5,12 @@ use Prim.Native.Nat.{ℕ, _+_, _*_, _^_, _<_}
 use native.Mathlib.Nat.{le-of-eq, mul-one}
 use native.Mathlib.Omega.{arith}
 use borrow.Author.Tests.{ltb-true, ltb-false, eqb-true, eqb-false, le-ltb, le-leb, lt-leb, ne-eqb}
-use lib.IntN.{ℤ, pos}
+use lib.IntN.{pos}
 use lib.Dec.{leb, ltb, eqb}
 use lib.Ieee.{Float, nan, inf, fin, up, down, below, level, lt, eq, le, isNan}
 use lib.Ieee.Fits.{down-pos}
 use lib.Ieee.Nearest.{closest}
 use Rattle.refusal.specs.declared.Refusal.the-variants.{OverflowOrNan}
-use Rattle.duration.specs.declared.Answer.{Answer}
 use Rattle.duration.specs.declared.Answer.the-variants.{Refused}
 use Rattle.duration.specs.Meaning.{exact}
 use Rattle.seconds.specs.From.{ofFraction, ofSize}

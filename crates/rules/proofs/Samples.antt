@@ -11,46 +11,24 @@ use Rattle.text.specs.Digits.{lastDigits, decimal, pointed, numeral}
 use Rattle.text.specs.Text.{unitOf, placesOf, shown, plainIn, plain, lacking, front, padded, text}
 use Rattle.text.proofs.Decimals.{width-one, width-is}
 use Rattle.rules.specs.Samples.{Samples}
+use Rattle.rules.proofs.Checks.{_also_}
 
 pub samples : Samples
 unfolding fromSeconds ofFraction exact secondsAs add sum div ofInt round ofBits lt text padded lacking front times plain plainIn unitOf placesOf shown numeral decimal lastDigits pointed floorOf ceilOf valid
-samples = (
-  refl,
-  (
-    refl,
-    (
-      refl,
-      (
-        refl,
-        (
-          refl,
-          (
-            refl,
-            (
-              refl,
-              (
-                refl,
-                (
-                  refl,
-                  (
-                    refl,
-                    (
-                      rw (← width-one 2 (lit< tt)),
-                      (
-                        rw (← width-one 4 (lit< tt)),
-                        (
-                          rw (← width-is 18446744073709551616 19 (lit< tt) (lit≤ tt)),
-                          (refl, (refl, tt)),
-                        ),
-                      ),
-                    ),
-                  ),
-                ),
-              ),
-            ),
-          ),
-        ),
-      ),
-    ),
-  ),
-)
+samples =
+    refl
+    also refl
+    also refl
+    also refl
+    also refl
+    also refl
+    also refl
+    also refl
+    also refl
+    also refl
+    also (rw (← width-one 2 (lit< tt)))
+    also (rw (← width-one 4 (lit< tt)))
+    also (rw (← width-is 18446744073709551616 19 (lit< tt) (lit≤ tt)))
+    also refl
+    also refl
+    also tt

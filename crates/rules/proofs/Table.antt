@@ -1,8 +1,8 @@
 -- Every row of the table obeys the order of checks: each definition looks at its conditions one by one. Assumes nothing.
 use mathlib.Core.Path.{_≡_, refl, sym, ap, _∙_}
-use mathlib.Core.Bool.{Bool, true, false, cond, not, _&&_, _||_, and-false, Bool·not-not}
+use mathlib.Core.Bool.{Bool, true, false, cond, not, _&&_, _||_, and-false}
 use mathlib.Core.List.{List, [], _∷_, _++_}
-use Prim.Native.Nat.{ℕ, suc, _+_, _-_, _*_, _/_, _%_, _^_, _≤_, _<_, min, max}
+use Prim.Native.Nat.{ℕ, suc, _+_, _-_, _*_, _/_, _%_, _^_, _≤_, min, max}
 use native.Mathlib.Nat.{le-trans, div-le-self}
 use native.Mathlib.Omega.{arith}
 use borrow.Author.Tests.{leb-true, leb-false, le-leb}
@@ -14,7 +14,7 @@ use Rattle.laws.specs.Bytes.{littleEndian, decoded}
 use Rattle.refusal.specs.Numbers.{numberOf}
 use Rattle.refusal.specs.declared.Refusal.{Refusal}
 use Rattle.refusal.specs.declared.Refusal.the-variants as R
-use Rattle.wide.specs.Wide.{words, answer, difference, division}
+use Rattle.wide.specs.Wide.{answer, difference, division}
 use Rattle.door.specs.Door as Door
 use Rattle.duration.specs.declared.Duration.{Duration}
 use Rattle.duration.specs.declared.Answer.{Answer}
@@ -29,17 +29,13 @@ use Rattle.sums.specs.Sum as Sums
 use Rattle.seconds.specs.Out.{secondsAs}
 use Rattle.seconds.specs.From.{ofSize, fromSeconds, timesFloat, overFloat}
 use Rattle.bounds.proofs.Conversions.{never-over}
-use Rattle.text.specs.declared.Options.{Options}
-use Rattle.text.specs.declared.TextAnswer.the-variants as Text
 use Rattle.text.specs.Options.{accepts}
 use Rattle.text.specs.Text.{text}
 use Rattle.text.specs.Answer.{fitted, answerOf}
-use Rattle.saltribbon.specs.declared.reply.Reply.{Reply}
 use Rattle.saltribbon.specs.declared.reply.Reply.the-variants as C
 use Rattle.saltribbon.specs.Reply.{codeOf, leftIn, ofDuration, ofSum, ofWide, ofWord, ofPart, ofFlag, ofOrder, ofF64, ofF32}
-use Rattle.rules.specs.Checks.{Grounds, any, holds, order, firstOf, chosen, met, Ruled}
-use Rattle.rules.specs.Table.{bad, converted, summed, badOptions, textCode, Table, NeverBad, Saturates, Unchanged}
-use Rattle.rules.proofs.Checks.{differ, neither, exactly}
+use Rattle.rules.specs.Refusals.{Grounds, any, holds, order, firstOf, chosen, met, Ruled, bad, converted, summed, badOptions, textCode, Table, NeverBad, Saturates, Unchanged}
+use Rattle.rules.proofs.Checks.{_also_, differ, neither, exactly}
 use Rattle.rules.proofs.Conditions.{not-above, not-reached, is-valid, are-valid, at-most, all-valid, is-within, are-whole, are-accepted}
 use Rattle.rules.proofs.Floats as Floats
 
@@ -151,7 +147,7 @@ module _ (room : ℕ) where
         exact-not code answered (z .0) (λ e. never-over x f (
         ap (λ (b : Bool). cond b (Refused R.Negative) (ofSize x)) h ∙ z .1 ∙ ap (λ (b : Bool). cond b (Refused R.OverflowOrNan) (exact (z .0))) k ∙ e))))
 
-    float-row : Obeys (code (fromSeconds x)) (converted x [] ++ small)
+    float-row : Obeys (code (fromSeconds x)) (converted x ++ small)
     unfolding codeOf fromSeconds
     float-row = check-if code R.Negative (Floats.negative x) (ofSize x) (Refused R.Negative) refl refl size-row
 
@@ -192,7 +188,7 @@ alone h k = record { given = h .is; alone = k }
 ruled : {n : ℕ} {l : Grounds} → Obeys n l → named l ≤ 1 → Ruled (n, l)
 ruled {n} {l} h k = alone h (le-trans (met-named l) k)
 
-met-float : (x : Float) → met (converted x []) ≤ 1
+met-float : (x : Float) → met (converted x) ≤ 1
 met-float x = go (Floats.negative x) (Floats.large x) (Floats.apart x)
   where
     go : (a b : Bool) → (a ≡ true → b ≡ false) → cond a (suc (cond b 1 0)) (cond b 1 0) ≤ 1
@@ -227,94 +223,35 @@ table room i j a b ss ns x o s t f =
     let done = enough room in
     let is = answered room in
     let ofA : bad a || bad b ≡ false → N a ≤ most = λ h. at-most a s (neither (bad a) (bad b) h .0) in
-    let ofB : bad a || bad b ≡ false → N b ≤ most = λ h. at-most b t (neither (bad a) (bad b) h .1) in (
-      ruled (check (λ z. Door.codeOf (Door.ofAnswer z)) R.Overflow (ltb i (2 ^ 128)) (leb (2 ^ 128) i) _ _ (not-reached i (2 ^ 128)) refl refl (λ _. record { is = refl })) (lit≤ tt),
-      (
-        ruled (check-if (λ z. Door.codeOf (Door.ofAnswer z)) R.Underflow (ltb i j) _ _ refl refl (λ _. record { is = refl })) (lit≤ tt),
-        (
-          ruled (check-if (λ z. Door.codeOf (Door.ofDivision z)) R.ZeroDivisor (eqb j 0) _ _ refl refl (λ _. record { is = refl })) (lit≤ tt),
-          (
-            ruled (exact-row room i) (lit≤ tt),
-            (
-              ruled (unit-row room i j) (lit≤ tt),
-              (
-                ruled (one (λ z. codeOf (ofWord z) room) a _ _ refl (λ _. done)) (lit≤ tt),
-                (
-                  ruled (one (λ z. codeOf (ofPart z) room) a _ _ refl (λ _. done)) (lit≤ tt),
-                  (
-                    ruled (one (λ z. codeOf (ofWide z) room) a _ _ refl (λ _. done)) (lit≤ tt),
-                    (
-                      ruled (one (λ z. codeOf (ofFlag z) room) a _ _ refl (λ _. done)) (lit≤ tt),
-                      (
-                        ruled (two (λ z. codeOf (ofOrder z) room) a b _ _ refl (λ _. done)) (lit≤ tt),
-                        (
-                          ruled (two (code room) a b _ _ refl (λ _. exact-row room (N a + N b))) (lit≤ tt),
-                          (
-                            ruled (two (code room) a b _ _ refl (λ h. check (code room) R.Underflow (leb (N b) (N a)) (ltb (N a) (N b)) _ _ (not-above (N b) (N a)) refl refl (λ _. exact-fits (code room) is (N a - N b) (omega (arith, ofA h))))) (lit≤ tt),
-                            (
-                              ruled (two (code room) a b _ _ refl (λ h. exact-fits (code room) is (max (N a) (N b) - min (N a) (N b)) (omega (arith, ofA h, ofB h)))) (lit≤ tt),
-                              (
-                                ruled (one (code room) a _ _ refl (λ _. exact-row room (N a * i))) (lit≤ tt),
-                                (
-                                  ruled (one (code room) a _ _ refl (λ h. check-if (code room) R.ZeroDivisor (eqb i 0) _ _ refl refl (λ _. exact-fits (code room) is (N a / i) (le-trans (div-le-self (N a) i) (at-most a s h))))) (lit≤ tt),
-                                  (
-                                    ruled (two (λ z. codeOf (ofWide z) room) a b _ _ refl (λ _. check-if (λ z. codeOf (ofWide z) room) R.ZeroDivisor (eqb (N b) 0) _ _ refl refl (λ _. done))) (lit≤ tt),
-                                    (
-                                      ruled (two (λ z. codeOf (ofWide z) room) a b _ _ refl (λ _. check-if (λ z. codeOf (ofWide z) room) R.ZeroDivisor (eqb (N b) 0) _ _ refl refl (λ _. done))) (lit≤ tt),
-                                      (
-                                        ruled (two (λ z. code room (saturated z)) a b _ _ refl (λ _. rw (saturated-exact (N a + N b)) done)) (lit≤ tt),
-                                        (
-                                          ruled (two (λ z. code room (saturated z)) a b _ _ refl (λ h. rw (saturated-less (N a) (N b) (ofA h)) done)) (lit≤ tt),
-                                          (
-                                            ruled (one (λ z. code room (saturated z)) a _ _ refl (λ _. rw (saturated-exact (N a * i)) done)) (lit≤ tt),
-                                            (
-                                              ruled (sum-row room ss ns i j) (lit≤ tt),
-                                              (
-                                                ruled (bytes-row room ss ns i j) (lit≤ tt),
-                                                (
-                                                  ruled (one (λ z. codeOf (ofF64 z) room) a _ _ refl (λ _. done)) (lit≤ tt),
-                                                  (
-                                                    ruled (one (λ z. codeOf (ofF32 z) room) a _ _ refl (λ _. done)) (lit≤ tt),
-                                                    (
-                                                      ruled (two (λ z. codeOf (ofF64 z) room) a b _ _ refl (λ _. done)) (lit≤ tt),
-                                                      (
-                                                        ruled (two (λ z. codeOf (ofF32 z) room) a b _ _ refl (λ _. done)) (lit≤ tt),
-                                                        (
-                                                          alone (float-row room x f) (met-float x),
-                                                          (
-                                                            alone (one (code room) a _ _ refl (λ _. float-row room (mul binary64 x (secondsAs binary64 a)) (mul-fits binary64 x (secondsAs binary64 a)))) (met-float _),
-                                                            (
-                                                              alone (one (code room) a _ _ refl (λ _. float-row room (div binary64 (secondsAs binary64 a) x) (div-fits binary64 (secondsAs binary64 a) x))) (met-float _),
-                                                              (
-                                                                ruled (one textCode a _ _ refl (λ _. check textCode R.BadOptions (accepts o) (badOptions o) _ _ (are-accepted o) refl refl (λ _. check textCode R.NoRoom (leb (length (text (N a) o)) room) (ltb room (length (text (N a) o))) _ _ (not-above (length (text (N a) o)) room) refl refl (λ _. record { is = refl })))) (lit≤ tt),
-                                                                tt,
-                                                              ),
-                                                            ),
-                                                          ),
-                                                        ),
-                                                      ),
-                                                    ),
-                                                  ),
-                                                ),
-                                              ),
-                                            ),
-                                          ),
-                                        ),
-                                      ),
-                                    ),
-                                  ),
-                                ),
-                              ),
-                            ),
-                          ),
-                        ),
-                      ),
-                    ),
-                  ),
-                ),
-              ),
-            ),
-          ),
-        ),
-      ),
-    )
+    let ofB : bad a || bad b ≡ false → N b ≤ most = λ h. at-most b t (neither (bad a) (bad b) h .1) in
+    ruled (check (λ z. Door.codeOf (Door.ofAnswer z)) R.Overflow (ltb i (2 ^ 128)) (leb (2 ^ 128) i) _ _ (not-reached i (2 ^ 128)) refl refl (λ _. record { is = refl })) (lit≤ tt)
+    also ruled (check-if (λ z. Door.codeOf (Door.ofAnswer z)) R.Underflow (ltb i j) _ _ refl refl (λ _. record { is = refl })) (lit≤ tt)
+    also ruled (check-if (λ z. Door.codeOf (Door.ofDivision z)) R.ZeroDivisor (eqb j 0) _ _ refl refl (λ _. record { is = refl })) (lit≤ tt)
+    also ruled (exact-row room i) (lit≤ tt)
+    also ruled (unit-row room i j) (lit≤ tt)
+    also ruled (one (λ z. codeOf (ofWord z) room) a _ _ refl (λ _. done)) (lit≤ tt)
+    also ruled (one (λ z. codeOf (ofPart z) room) a _ _ refl (λ _. done)) (lit≤ tt)
+    also ruled (one (λ z. codeOf (ofWide z) room) a _ _ refl (λ _. done)) (lit≤ tt)
+    also ruled (one (λ z. codeOf (ofFlag z) room) a _ _ refl (λ _. done)) (lit≤ tt)
+    also ruled (two (λ z. codeOf (ofOrder z) room) a b _ _ refl (λ _. done)) (lit≤ tt)
+    also ruled (two (code room) a b _ _ refl (λ _. exact-row room (N a + N b))) (lit≤ tt)
+    also ruled (two (code room) a b _ _ refl (λ h. check (code room) R.Underflow (leb (N b) (N a)) (ltb (N a) (N b)) _ _ (not-above (N b) (N a)) refl refl (λ _. exact-fits (code room) is (N a - N b) (omega (arith, ofA h))))) (lit≤ tt)
+    also ruled (two (code room) a b _ _ refl (λ h. exact-fits (code room) is (max (N a) (N b) - min (N a) (N b)) (omega (arith, ofA h, ofB h)))) (lit≤ tt)
+    also ruled (one (code room) a _ _ refl (λ _. exact-row room (N a * i))) (lit≤ tt)
+    also ruled (one (code room) a _ _ refl (λ h. check-if (code room) R.ZeroDivisor (eqb i 0) _ _ refl refl (λ _. exact-fits (code room) is (N a / i) (le-trans (div-le-self (N a) i) (at-most a s h))))) (lit≤ tt)
+    also ruled (two (λ z. codeOf (ofWide z) room) a b _ _ refl (λ _. check-if (λ z. codeOf (ofWide z) room) R.ZeroDivisor (eqb (N b) 0) _ _ refl refl (λ _. done))) (lit≤ tt)
+    also ruled (two (λ z. codeOf (ofWide z) room) a b _ _ refl (λ _. check-if (λ z. codeOf (ofWide z) room) R.ZeroDivisor (eqb (N b) 0) _ _ refl refl (λ _. done))) (lit≤ tt)
+    also ruled (two (λ z. code room (saturated z)) a b _ _ refl (λ _. rw (saturated-exact (N a + N b)) done)) (lit≤ tt)
+    also ruled (two (λ z. code room (saturated z)) a b _ _ refl (λ h. rw (saturated-less (N a) (N b) (ofA h)) done)) (lit≤ tt)
+    also ruled (one (λ z. code room (saturated z)) a _ _ refl (λ _. rw (saturated-exact (N a * i)) done)) (lit≤ tt)
+    also ruled (sum-row room ss ns i j) (lit≤ tt)
+    also ruled (bytes-row room ss ns i j) (lit≤ tt)
+    also ruled (one (λ z. codeOf (ofF64 z) room) a _ _ refl (λ _. done)) (lit≤ tt)
+    also ruled (one (λ z. codeOf (ofF32 z) room) a _ _ refl (λ _. done)) (lit≤ tt)
+    also ruled (two (λ z. codeOf (ofF64 z) room) a b _ _ refl (λ _. done)) (lit≤ tt)
+    also ruled (two (λ z. codeOf (ofF32 z) room) a b _ _ refl (λ _. done)) (lit≤ tt)
+    also alone (float-row room x f) (met-float x)
+    also alone (one (code room) a _ _ refl (λ _. float-row room (mul binary64 x (secondsAs binary64 a)) (mul-fits binary64 x (secondsAs binary64 a)))) (met-float _)
+    also alone (one (code room) a _ _ refl (λ _. float-row room (div binary64 (secondsAs binary64 a) x) (div-fits binary64 (secondsAs binary64 a) x))) (met-float _)
+    also ruled (one textCode a _ _ refl (λ _. check textCode R.BadOptions (accepts o) (badOptions o) _ _ (are-accepted o) refl refl (λ _. check textCode R.NoRoom (leb (length (text (N a) o)) room) (ltb room (length (text (N a) o))) _ _ (not-above (length (text (N a) o)) room) refl refl (λ _. record { is = refl })))) (lit≤ tt)
+    also tt

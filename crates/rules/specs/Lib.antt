@@ -1,4 +1,3 @@
 -- The theorems, as statements; `proofs` has a proof of each.
-pub mod Checks
-pub mod Table
+pub mod Refusals
 pub mod Samples

@@ -8,16 +8,8 @@ use lib.Ieee.{Float, inf, fin, binary64, ofBits}
 use Rattle.refusal.specs.declared.Refusal.the-variants.{Negative, OverflowOrNan}
 use Rattle.wide.specs.declared.WideAnswer.the-variants as Wide
 use Rattle.wide.specs.Wide.{words}
-use Rattle.duration.specs.declared.Duration.{Duration}
 use Rattle.duration.specs.declared.Answer.{Answer}
-use Rattle.duration.specs.declared.Answer.the-variants.{Is, Refused}
-use Rattle.duration.specs.Meaning.{N}
-use Rattle.arithmetic.specs.Arithmetic.{floorOf, ceilOf}
-use Rattle.seconds.specs.Out.{secondsAs}
-use Rattle.seconds.specs.From.{fromSeconds}
-use Rattle.text.specs.declared.Count.the-variants.{Unset, Set}
-use Rattle.text.specs.Text.{text}
-use Rattle.rules.specs.Checks.{All}
+use Rattle.rules.specs.Refusals.{All, Duration, Is, Refused, N, floorOf, ceilOf, secondsAs, fromSeconds, Unset, Set, text}
 
 -- a float in and its answer; the text of a duration without fraction digits; a quotient rounded down, and up
 pub data Sample : Type 0 where

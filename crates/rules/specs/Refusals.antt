@@ -1,6 +1,7 @@
--- Every definition that a contract cites, beside what document 01's column says of it. Assumes nothing.
-use Prim.Native.Nat.{ℕ, _+_, _-_, _*_, _%_, _^_, _<_, min}
+-- Document 01's refusal table: the order of checks, and every definition that a contract cites beside what the table says of it. Assumes nothing.
+use Prim.Native.Nat.{ℕ, suc, _+_, _-_, _*_, _%_, _^_, _≤_, _<_, min}
 use mathlib.Core.Path.{_≡_}
+use mathlib.Core.Logic.{_↔_}
 use mathlib.Core.Bool.{Bool, true, false, cond, not, _&&_, _||_}
 use mathlib.Core.List.{List, [], _∷_, _++_}
 use lib.IntN.{pos}
@@ -9,36 +10,83 @@ use lib.Dec.{T, leb, ltb, eqb}
 use lib.Ieee.{Float, fin, binary64, lt, le, isNan, fits, mul, div}
 use Rattle.laws.specs.Bytes.{decoded}
 use Rattle.refusal.specs.Numbers.{numberOf}
+use Rattle.refusal.specs.declared.Refusal.{Refusal}
 use Rattle.refusal.specs.declared.Refusal.the-variants as R
 use Rattle.wide.specs.Wide.{answer, difference, division}
 use Rattle.door.specs.Door as Door
-use Rattle.duration.specs.declared.Duration.{Duration}
-use Rattle.duration.specs.declared.Answer.the-variants.{Is, Refused}
-use Rattle.duration.specs.Meaning.{N, valid, most, ofNanos, exact}
+pub use Rattle.duration.specs.declared.Duration.{Duration}
+pub use Rattle.duration.specs.declared.Answer.the-variants.{Is, Refused}
+pub use Rattle.duration.specs.Meaning.{N, valid, most, ofNanos, exact}
 use Rattle.duration.specs.Units.{units, fromUnit}
 use Rattle.duration.specs.Parts.{asSecs, subsec, count, isZero, compared}
-use Rattle.arithmetic.specs.Arithmetic.{added, subtracted, apart, times, shared, floorOf, ceilOf, saturated}
+pub use Rattle.arithmetic.specs.Arithmetic.{added, subtracted, apart, times, shared, floorOf, ceilOf, saturated}
 use Rattle.sums.specs.Sum.{rows, total, sumOf, sumBytes}
-use Rattle.seconds.specs.Out.{secondsAs, f64If, f32If}
-use Rattle.seconds.specs.From.{fromSeconds, timesFloat, overFloat}
+pub use Rattle.seconds.specs.Out.{secondsAs, f64If, f32If}
+pub use Rattle.seconds.specs.From.{fromSeconds, timesFloat, overFloat}
 use Rattle.text.specs.declared.Count.{Count}
-use Rattle.text.specs.declared.Count.the-variants.{Unset, Set}
+pub use Rattle.text.specs.declared.Count.the-variants.{Unset, Set}
 use Rattle.text.specs.declared.Options.{Options}
 use Rattle.text.specs.declared.TextAnswer.{TextAnswer}
 use Rattle.text.specs.declared.TextAnswer.the-variants as Text
-use Rattle.text.specs.Text.{text}
+pub use Rattle.text.specs.Text.{text}
 use Rattle.text.specs.Answer.{answerOf}
 use Rattle.saltribbon.specs.declared.reply.Reply.{Reply}
 use Rattle.saltribbon.specs.Reply.{codeOf, leftIn, ofDuration, ofSum, ofWide, ofWord, ofPart, ofFlag, ofOrder, ofF64, ofF32}
-use Rattle.rules.specs.Checks.{Grounds, any, Ruled, All}
+
+-- what 01's column "given exactly when" says of one call: the refusals that it can meet, each with whether its condition holds
+abbrev pub Grounds : Type 0
+Grounds = List (Refusal × Bool)
+
+abbrev pub any : {A : Type 0} → (A → Bool) → List A → Bool
+any p [] = false
+any p (x ∷ l) = p x || any p l
+
+-- whether the condition of the refusal with that number holds
+abbrev pub holds : Grounds → ℕ → Bool
+holds l n = any (λ (g : Refusal × Bool). eqb (numberOf (g .0)) n && g .1) l
+
+-- 10; 11; 8; 7; 6; then 1 to 5; 9 last
+abbrev pub order : List ℕ
+order = 10 ∷ 11 ∷ 8 ∷ 7 ∷ 6 ∷ 1 ∷ 2 ∷ 3 ∷ 4 ∷ 5 ∷ 9 ∷ []
+
+-- the first of the numbers whose condition holds, or 0
+abbrev pub firstOf : Grounds → List ℕ → ℕ
+firstOf l [] = 0
+firstOf l (n ∷ ns) = cond (holds l n) n (firstOf l ns)
+
+-- the number that a call returns: a refusal's, or 0 for an answer
+abbrev pub chosen : Grounds → ℕ
+chosen l = firstOf l order
+
+-- a number is given exactly when its condition holds and none that is looked at before it does
+abbrev pub Exactly : Type 0
+Exactly = (l : Grounds) (before after : List ℕ) (n : ℕ) → order ≡ before ++ n ∷ after → (chosen l ≡ n) ↔ ((holds l n ≡ true) × (any (holds l) before ≡ false))
+
+-- and there is an answer exactly when none holds
+abbrev pub Answered : Type 0
+Answered = (l : Grounds) → (chosen l ≡ 0) ↔ (any (holds l) order ≡ false)
+
+-- how many of 1 to 5 a call meets
+abbrev pub met : Grounds → ℕ
+met [] = 0
+met (g ∷ l) = cond (leb (numberOf (g .0)) 5 && g .1) (suc (met l)) (met l)
+
+-- a call that returns that number obeys the order, and of 1 to 5 it meets at most one
+pub record Ruled (call : ℕ × Grounds) : Type 0 where
+  pub given : call .0 ≡ chosen (call .1)
+  pub alone : met (call .1) ≤ 1
+
+abbrev pub All : {A : Type 0} → (A → Type 0) → List A → Type 0
+All P [] = Unit {0}
+All P (x ∷ l) = P x × All P l
 
 -- a pair whose nanoseconds are 10 ^ 9 or more
 abbrev pub bad : Duration → Bool
 bad d = leb (10 ^ 9) (d .nanos)
 
 -- a float to be converted: below zero; a NaN or at least 2 ^ 64
-abbrev pub converted : Float → Grounds → Grounds
-converted x l = (R.Negative, lt x (fin false 0 (pos 0))) ∷ (R.OverflowOrNan, isNan x || le (fin false 1 (pos 64)) x) ∷ l
+abbrev pub converted : Float → Grounds
+converted x = (R.Negative, lt x (fin false 0 (pos 0))) ∷ (R.OverflowOrNan, isNan x || le (fin false 1 (pos 64)) x) ∷ []
 
 -- a list: slices of unequal length, first > end, end > that length; a bad row in the range; a total above MAX
 abbrev pub summed : Bool → List ℕ → List ℕ → ℕ → ℕ → Grounds
@@ -92,9 +140,9 @@ table room i j a b ss ns x o =
     ∷ call room (ofF32 (f32If (valid a) x)) ((R.BadDuration, bad a) ∷ [])
     ∷ call room (ofF64 (f64If (valid a && valid b) x)) ((R.BadDuration, bad a || bad b) ∷ [])
     ∷ call room (ofF32 (f32If (valid a && valid b) x)) ((R.BadDuration, bad a || bad b) ∷ [])
-    ∷ call room (ofDuration (fromSeconds x)) (converted x [])
-    ∷ call room (ofDuration (timesFloat a x)) ((R.BadDuration, bad a) ∷ converted (mul binary64 x (secondsAs binary64 a)) [])
-    ∷ call room (ofDuration (overFloat a x)) ((R.BadDuration, bad a) ∷ converted (div binary64 (secondsAs binary64 a) x) [])
+    ∷ call room (ofDuration (fromSeconds x)) (converted x)
+    ∷ call room (ofDuration (timesFloat a x)) ((R.BadDuration, bad a) ∷ converted (mul binary64 x (secondsAs binary64 a)))
+    ∷ call room (ofDuration (overFloat a x)) ((R.BadDuration, bad a) ∷ converted (div binary64 (secondsAs binary64 a) x))
     ∷ (textCode (answerOf a o room), (R.BadDuration, bad a) ∷ (R.BadOptions, badOptions o) ∷ (R.NoRoom, ltb room (length (text (N a) o))) ∷ [])
     ∷ []
 
