@@ -111,7 +111,7 @@ textCode (Text.Refused r) = numberOf r
 abbrev pub call : ℕ → Reply → Grounds → ℕ × Grounds
 call room a l = (codeOf a room, l ++ (R.NoRoom, ltb room 16) ∷ [])
 
--- the two-word operations; constructors; parts; integers; sums; floats out; floats in; text
+-- two-word operations; constructors; parts; integers; sums; floats out; floats in; text. i and j stand for counts, units, factors, divisors, first and end
 abbrev pub table : (room i j : ℕ) (a b : Duration) (ss ns : List ℕ) (x : Float) (o : Options) → List (ℕ × Grounds)
 table room i j a b ss ns x o =
     (Door.codeOf (Door.ofAnswer (answer i)), (R.Overflow, leb (2 ^ 128) i) ∷ [])
@@ -154,7 +154,7 @@ Table = (room i j : ℕ) (a b : Duration) (ss ns : List ℕ) (x : Float) (o : Op
 abbrev pub NeverBad : Type 0
 NeverBad = (room n : ℕ) → codeOf (ofDuration (exact n)) room ≡ numberOf R.BadDuration → ⊥
 
--- a saturating operation answers MAX in place of more, and ZERO in place of less
+-- a saturating operation answers MAX in place of more, and ZERO in place of less, where a difference of natural numbers stops
 abbrev pub Saturates : Type 0
 Saturates = (a b : Duration) (k : ℕ) → a .secs < 2 ^ 64 → bad a || bad b ≡ false
     → (saturated (added a b) ≡ Is (ofNanos (min (N a + N b) most))) × (saturated (subtracted a b) ≡ Is (ofNanos (N a - N b))) × (saturated (times a k) ≡ Is (ofNanos (min (N a * k) most)))
