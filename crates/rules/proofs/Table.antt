@@ -34,7 +34,7 @@ use Rattle.text.specs.Text.{text}
 use Rattle.text.specs.Answer.{fitted, answerOf}
 use Rattle.saltribbon.specs.declared.reply.Reply.the-variants as C
 use Rattle.saltribbon.specs.Reply.{codeOf, leftIn, ofDuration, ofSum, ofWide, ofWord, ofPart, ofFlag, ofOrder, ofF64, ofF32}
-use Rattle.rules.specs.Refusals.{Grounds, any, holds, order, firstOf, chosen, met, Ruled, bad, converted, summed, badOptions, textCode, Table, NeverBad, Saturates, Unchanged}
+use Rattle.rules.specs.Refusals.{Grounds, any, holds, order, firstOf, chosen, met, Ruled, bad, converted, listed, badOptions, textCode, Table, NeverBad, Saturates, Unchanged}
 use Rattle.rules.proofs.Checks.{_also_, differ, neither, exactly}
 use Rattle.rules.proofs.Conditions.{not-above, not-reached, is-valid, are-valid, at-most, all-valid, is-within, are-whole, are-accepted}
 use Rattle.rules.proofs.Floats as Floats
@@ -124,16 +124,16 @@ module _ (room : ℕ) where
   unfolding codeOf Sums.ofRows
   rows-row ds = check sum-code R.BadRow (Sums.allValid ds) (any bad ds) _ (Sum.Refused R.BadRow) (all-valid ds) refl refl (λ _. exact-is (λ (z : Answer). sum-code (Sums.summed z)) (λ _. enough) (Sums.total ds) refl refl)
 
-  sum-row : (ss ns : List ℕ) (i j : ℕ) → Obeys (sum-code (Sums.sumOf ss ns i j)) (summed false ss ns i j ++ small)
+  sum-row : (ss ns : List ℕ) (i j : ℕ) → Obeys (sum-code (Sums.sumOf ss ns i j)) (listed false ss ns i j ++ small)
   unfolding codeOf Sums.sumOf
   sum-row ss ns i j = check sum-code R.BadRange (Sums.within (length ss) (length ns) i j) _ _ (Sum.Refused R.BadRange) (is-within (length ss) (length ns) i j) refl refl (λ _. rows-row (take (j - i) (drop i (Sums.rows ss ns))))
 
-  odd-row : (odd : Bool) (ss ns : List ℕ) (i j : ℕ) → Obeys (sum-code (cond (not odd) (Sums.sumOf ss ns i j) (Sum.Refused R.BadRange))) (summed odd ss ns i j ++ small)
+  odd-row : (odd : Bool) (ss ns : List ℕ) (i j : ℕ) → Obeys (sum-code (cond (not odd) (Sums.sumOf ss ns i j) (Sum.Refused R.BadRange))) (listed odd ss ns i j ++ small)
   unfolding codeOf
   odd-row true ss ns i j = record { is = refl }
   odd-row false ss ns i j = sum-row ss ns i j
 
-  bytes-row : (ss ns : List ℕ) (i j : ℕ) → Obeys (sum-code (Sums.sumBytes ss ns i j)) (summed (not (eqb (length ss % 8) 0) || not (eqb (length ns % 4) 0)) (decoded 8 ss) (decoded 4 ns) i j ++ small)
+  bytes-row : (ss ns : List ℕ) (i j : ℕ) → Obeys (sum-code (Sums.sumBytes ss ns i j)) (listed (not (eqb (length ss % 8) 0) || not (eqb (length ns % 4) 0)) (decoded 8 ss) (decoded 4 ns) i j ++ small)
   unfolding Sums.sumBytes
   bytes-row ss ns i j = rw (are-whole (length ss) (length ns)) (odd-row (not (eqb (length ss % 8) 0) || not (eqb (length ns % 4) 0)) (decoded 8 ss) (decoded 4 ns) i j)
 

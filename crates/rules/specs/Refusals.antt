@@ -88,9 +88,9 @@ bad d = leb (10 ^ 9) (d .nanos)
 abbrev pub converted : Float → Grounds
 converted x = (R.Negative, lt x (fin false 0 (pos 0))) ∷ (R.OverflowOrNan, isNan x || le (fin false 1 (pos 64)) x) ∷ []
 
--- a list: slices of unequal length, first > end, end > that length; a bad row in the range; a total above MAX
-abbrev pub summed : Bool → List ℕ → List ℕ → ℕ → ℕ → Grounds
-summed odd ss ns first end =
+-- a list: over C bytes that are no whole rows; slices of unequal length, first > end, end > that length; a bad row in the range; a total above MAX
+abbrev pub listed : Bool → List ℕ → List ℕ → ℕ → ℕ → Grounds
+listed odd ss ns first end =
     let range = take (end - first) (drop first (rows ss ns)) in
     (R.BadRange, odd || not (eqb (length ss) (length ns)) || ltb end first || ltb (length ss) end) ∷ (R.BadRow, any bad range) ∷ (R.Overflow, ltb most (total range)) ∷ []
 
@@ -134,8 +134,8 @@ table room i j a b ss ns x o =
     ∷ call room (ofDuration (saturated (added a b))) ((R.BadDuration, bad a || bad b) ∷ [])
     ∷ call room (ofDuration (saturated (subtracted a b))) ((R.BadDuration, bad a || bad b) ∷ [])
     ∷ call room (ofDuration (saturated (times a i))) ((R.BadDuration, bad a) ∷ [])
-    ∷ call room (ofSum (sumOf ss ns i j)) (summed false ss ns i j)
-    ∷ call room (ofSum (sumBytes ss ns i j)) (summed (not (eqb (length ss % 8) 0) || not (eqb (length ns % 4) 0)) (decoded 8 ss) (decoded 4 ns) i j)
+    ∷ call room (ofSum (sumOf ss ns i j)) (listed false ss ns i j)
+    ∷ call room (ofSum (sumBytes ss ns i j)) (listed (not (eqb (length ss % 8) 0) || not (eqb (length ns % 4) 0)) (decoded 8 ss) (decoded 4 ns) i j)
     ∷ call room (ofF64 (f64If (valid a) x)) ((R.BadDuration, bad a) ∷ [])
     ∷ call room (ofF32 (f32If (valid a) x)) ((R.BadDuration, bad a) ∷ [])
     ∷ call room (ofF64 (f64If (valid a && valid b) x)) ((R.BadDuration, bad a || bad b) ∷ [])
