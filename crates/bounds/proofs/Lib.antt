@@ -7,4 +7,3 @@ pub mod Errors
 pub mod Parts
 pub mod Trip
 pub mod Conversions
-pub mod Samples

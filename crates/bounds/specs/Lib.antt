@@ -3,4 +3,3 @@ pub mod Distance
 pub mod Errors
 pub mod Trip
 pub mod Conversions
-pub mod Samples

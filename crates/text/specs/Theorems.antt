@@ -4,8 +4,7 @@ use mathlib.Core.Path.{_≡_}
 use mathlib.Core.Bool.{true}
 use mathlib.Core.List.{List, [], _∷_}
 use lib.ListN.{length}
-use Rattle.duration.specs.declared.Duration.{Duration}
-use Rattle.duration.specs.Meaning.{N, most}
+use Rattle.duration.specs.Meaning.{most}
 use Rattle.text.specs.declared.Count.the-variants.{Unset, Set}
 use Rattle.text.specs.declared.Options.{Options}
 use Rattle.text.specs.Digits.{width, decimal}
@@ -36,28 +35,3 @@ Wide = (n : ℕ) (o : Options) (w : ℕ) → accepts o ≡ true → o .width ≡
 -- without a precision, and with no fill to hide it, a text has one value
 abbrev pub Distinct : Type 0
 Distinct = (m n : ℕ) (o : Options) → o .precision ≡ Unset → o .width ≡ Unset → text m o ≡ text n o → m ≡ n
-
--- a duration, how many fraction digits, and its text
-pub record Sample : Type 0 where
-  pub duration : Duration
-  pub precision : ℕ
-  pub bytes : List ℕ
-
--- document 01's samples of the text: "2s", "4s" and "18446744073709551616s"
-abbrev pub samples : List Sample
-samples =
-    record { duration = record { secs = 2; nanos = 500000000 }; precision = 0; bytes = 50 ∷ 115 ∷ [] }
-    ∷ record { duration = record { secs = 3; nanos = 500000000 }; precision = 0; bytes = 52 ∷ 115 ∷ [] }
-    ∷ record {
-      duration = record { secs = 18446744073709551615; nanos = 500000000 };
-      precision = 0;
-      bytes = 49 ∷ 56 ∷ 52 ∷ 52 ∷ 54 ∷ 55 ∷ 52 ∷ 52 ∷ 48 ∷ 55 ∷ 51 ∷ 55 ∷ 48 ∷ 57 ∷ 53 ∷ 53 ∷ 49 ∷ 54 ∷ 49 ∷ 54 ∷ 115 ∷ [];
-    }
-    ∷ []
-
-abbrev pub Holds : List Sample → Type 0
-Holds [] = Unit {0}
-Holds (s ∷ l) = (text (N (s .duration)) (record { plus = 0; precision = Set (s .precision); width = Unset; alignment = 0; fill = 0x20 }) ≡ s .bytes) × Holds l
-
-abbrev pub Samples : Type 0
-Samples = Holds samples

@@ -1,0 +1,3 @@
+-- The theorems, as statements; `proofs` has a proof of each.
+pub mod Refusals
+pub mod Samples
