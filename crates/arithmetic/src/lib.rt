@@ -71,12 +71,12 @@ pub fn checked_mul(d: Duration, k: u32) -> Answer
     if 1_000_000_000 <= d.nanos {
         return Answer::Refused(Refusal::BadDuration);
     }
-    let nanos = d.nanos as u64 * k as u64;
-    let carry = nanos / 1_000_000_000;
     let secs = wide::widening_mul(d.secs, k as u64);
     if 0 < secs.hi {
         return Answer::Refused(Refusal::Overflow);
     }
+    let nanos = d.nanos as u64 * k as u64;
+    let carry = nanos / 1_000_000_000;
     if u64::MAX - secs.lo < carry {
         return Answer::Refused(Refusal::Overflow);
     }

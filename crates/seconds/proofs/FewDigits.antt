@@ -1,11 +1,11 @@
--- The way of `short`: 24 digits over a power of two, by one product and one quotient, with never a second to carry. Assumes nothing.
+-- The way of `short`: 24 digits over a power of two, by one shift and one product, with never a second to carry. Assumes nothing.
 use mathlib.Core.Path.{_≡_, refl, sym, ap, _∙_, subst}
 use mathlib.Core.Logic.{inl, inr}
 use Prim.Native.Nat.{ℕ, _+_, _-_, _*_, _/_, _%_, _^_, _≤_, _<_}
-use native.Mathlib.Nat.{mul-one, mul-assoc, add-zero, mod-lt, mod-le, lt-of-le-of-lt}
+use native.Mathlib.Nat.{mul-one, add-zero, mod-lt, mod-le, lt-of-le-of-lt}
 use native.Mathlib.Omega.{arith}
 use lib.Dec.{lit<}
-use lib.Pow.{pow-pos, pow-add, pow-mono, field, shl-shr, shr-le}
+use lib.Pow.{pow-pos, pow-mono, shl-shr, shr-shr, shr-le}
 use lib.Ieee.Nearest.{closest}
 use Rattle.laws.proofs.Closest.{le-or-lt, by-sum, closest-le}
 use Rattle.duration.specs.declared.Answer.the-variants.{Is}
@@ -14,29 +14,23 @@ use Rattle.seconds.specs.From.{ofFraction}
 use Rattle.seconds.proofs.Rounding.{fraction-of}
 use Rattle.seconds.proofs.Fraction.{split-at}
 
--- as the machine has it: the fraction over 2 ^ 34, and that fraction's nanoseconds
-abbrev pub part : ℕ → ℕ → ℕ
-part m k = m * 2 ^ (64 - k) % 2 ^ 64 / 0x4000_0000
-
+-- as the machine has it: the nanoseconds of p / 2 ^ 34
 abbrev pub rounded : ℕ → ℕ
 rounded p = (p + 0x1_ffff_ffff + p / 0x4_0000_0000 % 2) / 0x4_0000_0000
 
 rounded-is : (p : ℕ) → rounded p ≡ closest p (2 ^ 34)
 rounded-is p = by-sum p 0 1 (2 ^ 33) (p / 0x4_0000_0000 % 2) (lit< tt) (lit< tt) (omega arith) (λ e z. refl) (λ e z. absurd (omega arith)) ∙ ap (λ (z : ℕ). closest z (2 ^ 34)) (add-zero (p * 1) ∙ mul-one p)
 
-part-is : (m k : ℕ) → k ≤ 34 → part m k ≡ m * 2 ^ (34 - k) % 2 ^ 34
-part-is m k h = ap (λ (z : ℕ). z % 2 ^ 64 / 2 ^ 30) up ∙ field (m * 2 ^ (34 - k) * 2 ^ 30) 34 30 ∙ ap (λ (z : ℕ). z % 2 ^ 34) (shl-shr (m * 2 ^ (34 - k)) 30)
+-- m / 2 ^ k over 2 ^ 34: its whole seconds, and its nanoseconds
+secs-are : (m k : ℕ) → k ≤ 34 → m * 2 ^ (34 - k) / 2 ^ 34 ≡ m / 2 ^ k
+secs-are m k h = ap (λ (z : ℕ). m * 2 ^ (34 - k) / 2 ^ z) all ∙ sym (shr-shr (m * 2 ^ (34 - k)) (34 - k) k) ∙ ap (λ (z : ℕ). z / 2 ^ k) (shl-shr m (34 - k))
   where
-    steps : 64 - k ≡ 34 - k + 30
-    steps = omega arith
+    all : 34 ≡ 34 - k + k
+    all = omega arith
 
-    up : m * 2 ^ (64 - k) ≡ m * 2 ^ (34 - k) * 2 ^ 30
-    up = ap (λ (z : ℕ). m * 2 ^ z) steps ∙ ap (λ (z : ℕ). m * z) (pow-add 2 (34 - k) 30) ∙ sym (mul-assoc m (2 ^ (34 - k)) (2 ^ 30))
-
-nanos-are : (m k : ℕ) → k ≤ 34 → rounded (part m k * 10 ^ 9) ≡ closest (m % 2 ^ k * 10 ^ 9) (2 ^ k)
+nanos-are : (m k : ℕ) → k ≤ 34 → rounded (m * 2 ^ (34 - k) % 2 ^ 34 * 10 ^ 9) ≡ closest (m % 2 ^ k * 10 ^ 9) (2 ^ k)
 nanos-are m k h =
-    rounded-is (part m k * 10 ^ 9)
-    ∙ ap (λ (z : ℕ). closest (z * 10 ^ 9) (2 ^ 34)) (part-is m k h)
+    rounded-is (m * 2 ^ (34 - k) % 2 ^ 34 * 10 ^ 9)
     ∙ subst (λ (z : ℕ). closest (m * 2 ^ (34 - k) % 2 ^ z * 10 ^ 9) (2 ^ z) ≡ closest (m % 2 ^ k * 10 ^ 9) (2 ^ k)) all (fraction-of m k (34 - k))
   where
     all : k + (34 - k) ≡ 34
@@ -64,14 +58,20 @@ no-carry x k h l = closest-le (x * 10 ^ 9) (2 ^ k) 999999999 (pow-pos k) (elim (
         from : (k : ℕ) → 24 < k → 25 ≤ k
         from k e = omega arith
 
-pub short-is : (m k : ℕ) → m < 2 ^ 24 → k ≤ 34 → Is (record { secs = m / 2 ^ k; nanos = rounded (part m k * 10 ^ 9) }) ≡ ofFraction m (2 ^ k)
-short-is m k M h = exact-is secs-lt nanos-lt (ap (λ (z : ℕ). m / 2 ^ k * 10 ^ 9 + z) (nanos-are m k h)) ∙ sym (split-at m k (omega arith))
+pub short-is : (m k : ℕ) {v : ℕ} → m < 2 ^ 24 → k ≤ 34 → v ≡ m * 2 ^ (34 - k) → Is (record { secs = v / 2 ^ 34; nanos = rounded (v % 2 ^ 34 * 10 ^ 9) }) ≡ ofFraction m (2 ^ k)
+short-is m k {v} M h e = exact-is secs-lt nanos-lt (ap (λ (z : ℕ). z * 10 ^ 9 + rounded (v % 2 ^ 34 * 10 ^ 9)) secs ∙ ap (λ (z : ℕ). m / 2 ^ k * 10 ^ 9 + z) nanos) ∙ sym (split-at m k (omega arith))
   where
-    secs-lt : m / 2 ^ k < 2 ^ 64
-    secs-lt = omega (arith, shr-le m k)
+    secs : v / 2 ^ 34 ≡ m / 2 ^ k
+    secs = ap (λ (z : ℕ). z / 2 ^ 34) e ∙ secs-are m k h
 
-    few : (n c : ℕ) → n ≡ c → c ≤ 999999999 → n < 10 ^ 9
-    few n c e h = omega arith
+    nanos : rounded (v % 2 ^ 34 * 10 ^ 9) ≡ closest (m % 2 ^ k * 10 ^ 9) (2 ^ k)
+    nanos = ap (λ (z : ℕ). rounded (z % 2 ^ 34 * 10 ^ 9)) e ∙ nanos-are m k h
 
-    nanos-lt : rounded (part m k * 10 ^ 9) < 10 ^ 9
-    nanos-lt = few (rounded (part m k * 10 ^ 9)) (closest (m % 2 ^ k * 10 ^ 9) (2 ^ k)) (nanos-are m k h) (no-carry (m % 2 ^ k) k (mod-lt m (pow-pos k)) (lt-of-le-of-lt (mod-le m (2 ^ k)) M))
+    secs-lt : v / 2 ^ 34 < 2 ^ 64
+    secs-lt = rw secs (omega (arith, shr-le m k))
+
+    nanos-lt : rounded (v % 2 ^ 34 * 10 ^ 9) < 10 ^ 9
+    nanos-lt = rw nanos (few (closest (m % 2 ^ k * 10 ^ 9) (2 ^ k)) (no-carry (m % 2 ^ k) k (mod-lt m (pow-pos k)) (lt-of-le-of-lt (mod-le m (2 ^ k)) M)))
+      where
+        few : (c : ℕ) → c ≤ 999999999 → c < 10 ^ 9
+        few c h = omega arith

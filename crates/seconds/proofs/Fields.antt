@@ -6,12 +6,12 @@ use Prim.Native.Nat.{ℕ, zero, suc, _+_, _-_, _*_, _/_, _%_, _^_, _≤_, _<_}
 use native.Mathlib.Nat.{le-trans, le-add-right, mul-le-mul-right, one-mul, mul-one, zero-mul, eq-zero-or-pos}
 use native.Mathlib.Omega.{arith}
 use lib.IntN.{pos}
-use lib.Dec.{T, leb, eqb, eqb→eq, lit≤, lit<}
+use lib.Dec.{T, leb, eqb, eqb→eq, lit≤}
 use lib.Pow.{pow-pos, field}
 use lib.Bits.{bitAnd, bitOr, and-mask, mask-lt, or-shifted-r}
 use lib.Ieee.{Float, nan, inf, fin, Format, binary32, binary64, prec, low, hid, ones, top, up, down, odd, lt, le, eq, ne, below, level, isNan, fits, ofFields, ofBits, toBits}
 use lib.Ieee.Fits.{down-pos}
-use lib.Ieee.Bits.{ofBits-toBits}
+use lib.Ieee.Bits.{toBits-lt, ofBits-toBits}
 use lib.Ieee.Exact.{HasValue, odd-sign}
 use borrow.Author.Tests.{le-ltb, lt-ltb, eq-eqb, eqb-true, ltb-false}
 use Rattle.refusal.specs.declared.Refusal.the-variants.{Negative, OverflowOrNan}
@@ -91,14 +91,14 @@ neither true y z e h k = true≢false (rw (eq-eqb z y (omega (arith, ltb-false 0
 abbrev nought : Float
 nought = fin false 0 (pos 0)
 
-pub not-below-zero : (x : Float) → le nought x ≡ true → lt x nought ≡ false
+not-below-zero : (x : Float) → le nought x ≡ true → lt x nought ≡ false
 unfolding le lt eq
 not-below-zero nan h = refl
 not-below-zero (inf true) h = absurd (true≢false (sym h))
 not-below-zero (inf false) h = refl
 not-below-zero (fin s m e) h = above s (m * up e * down (pos 0)) (0 * up (pos 0) * down e) (zero-mul (down e)) h
 
-pub is-number : (x : Float) → le nought x ≡ true → T (not (isNan x))
+is-number : (x : Float) → le nought x ≡ true → T (not (isNan x))
 unfolding le lt eq isNan
 is-number nan h = absurd (true≢false (sym h))
 is-number (inf s) h = tt
@@ -120,61 +120,105 @@ unfolding fromSeconds
 not-below x h = rw h
 
 -- ---- as the machine takes the fields: by shifts and masks, w bits of exponent above the digits
+module _ (f : Format) (w : ℕ) (x : Float) where
+  abbrev exponent : ℕ
+  exponent = bitAnd (toBits f x / hid f) (2 ^ w - 1)
+
+  abbrev fraction : ℕ
+  fraction = bitAnd (toBits f x) (hid f - 1)
+
+  abbrev led : ℕ
+  led = bitOr fraction (hid f)
+
+  -- what they say where x is not below zero: its value as a whole number of seconds, as one over a power of two, and below half a nanosecond
+  pub record Pattern : Type 0 where
+    pub number : T (not (isNan x))
+    pub bits-lt : toBits f x < 2 * top f
+    pub led-lt : led < hid f + hid f
+    pub led-ge : hid f ≤ led
+    pub upward : suc (low f) ≤ exponent → ofFraction (led * 2 ^ (exponent - suc (low f))) 1 ≡ fromSeconds x
+    pub downward : 0 < exponent → exponent ≤ suc (low f) → ofFraction led (2 ^ (suc (low f) - exponent)) ≡ fromSeconds x
+    pub nothing : exponent + (prec f + 31) ≤ suc (low f) → Is (record { secs = 0; nanos = 0 }) ≡ fromSeconds x
+
+-- and why, of the size of an x that is no NaN
 module _ (f : Format) (w : ℕ) (W : top f ≡ 2 ^ (w + (prec f - 1))) (x : Float) (F : T (fits f x)) (N : T (not (isNan x))) where
   abbrev b : ℕ
   b = toBits f x
 
-  abbrev pub exponent : ℕ
-  exponent = bitAnd (b / hid f) (2 ^ w - 1)
+  abbrev e : ℕ
+  e = exponent f w x
 
-  abbrev pub fraction : ℕ
-  fraction = bitAnd b (hid f - 1)
+  abbrev t : ℕ
+  t = fraction f w x
 
-  fraction-lt : fraction < hid f
-  fraction-lt = mask-lt b (prec f - 1)
+  abbrev m : ℕ
+  m = led f w x
 
-  abbrev pub led : ℕ
-  led = bitOr fraction (hid f)
+  t-lt : t < hid f
+  t-lt = mask-lt b (prec f - 1)
 
-  led-is : led ≡ hid f + fraction
-  led-is = ap (λ (z : ℕ). bitOr fraction z) (sym (one-mul (hid f))) ∙ or-shifted-r 1 (prec f - 1) fraction fraction-lt ∙ ap (λ (z : ℕ). z + fraction) (one-mul (hid f))
+  m-is : m ≡ hid f + t
+  m-is = ap (λ (z : ℕ). bitOr t z) (sym (one-mul (hid f))) ∙ or-shifted-r 1 (prec f - 1) t t-lt ∙ ap (λ (z : ℕ). z + t) (one-mul (hid f))
 
-  pub led-lt : led < hid f + hid f
-  led-lt = rw led-is (omega (arith, fraction-lt))
+  m-lt : m < hid f + hid f
+  m-lt = rw m-is (omega (arith, t-lt))
 
-  pub led-ge : hid f ≤ led
-  led-ge = rw led-is (omega arith)
-
-  read : ofSize x ≡ ofFraction (digits f exponent fraction * 2 ^ (exponent - 1)) (2 ^ low f)
+  read : ofSize x ≡ ofFraction (digits f e t * 2 ^ (e - 1)) (2 ^ low f)
   read =
       by-fields f x F N
       ∙ ap (λ (z : ℕ). ofFraction (digits f z (b % hid f) * 2 ^ (z - 1)) (2 ^ low f)) (ap (λ (z : ℕ). b % z / hid f) W ∙ field b w (prec f - 1) ∙ sym (and-mask (b / hid f) w))
-      ∙ ap (λ (z : ℕ). ofFraction (digits f exponent z * 2 ^ (exponent - 1)) (2 ^ low f)) (sym (and-mask b (prec f - 1)))
+      ∙ ap (λ (z : ℕ). ofFraction (digits f e z * 2 ^ (e - 1)) (2 ^ low f)) (sym (and-mask b (prec f - 1)))
 
-  normal : 0 < exponent → ofSize x ≡ ofFraction (led * 2 ^ (exponent - 1)) (2 ^ low f)
-  normal z = read ∙ ap (λ (y : ℕ). ofFraction (y * 2 ^ (exponent - 1)) (2 ^ low f)) (go exponent z ∙ sym led-is)
+  normal : 0 < e → ofSize x ≡ ofFraction (m * 2 ^ (e - 1)) (2 ^ low f)
+  normal z = read ∙ ap (λ (y : ℕ). ofFraction (y * 2 ^ (e - 1)) (2 ^ low f)) (go e z ∙ sym m-is)
     where
-      go : (y : ℕ) → 0 < y → digits f y fraction ≡ hid f + fraction
+      go : (y : ℕ) → 0 < y → digits f y t ≡ hid f + t
       go zero z = absurd (omega arith)
       go (suc y) z = refl
 
-  -- the value as a whole number of seconds, and as one over a power of two
-  pub upward : suc (low f) ≤ exponent → ofSize x ≡ ofFraction (led * 2 ^ (exponent - suc (low f))) 1
-  upward h = normal (omega arith) ∙ scaled-up led (exponent - 1) (low f) (omega arith) ∙ ap (λ (z : ℕ). ofFraction (led * 2 ^ z) 1) (omega arith)
+  above-point : suc (low f) ≤ e → ofSize x ≡ ofFraction (m * 2 ^ (e - suc (low f))) 1
+  above-point h = normal (omega arith) ∙ scaled-up m (e - 1) (low f) (omega arith) ∙ ap (λ (z : ℕ). ofFraction (m * 2 ^ z) 1) (omega arith)
 
-  pub downward : 0 < exponent → exponent ≤ suc (low f) → ofSize x ≡ ofFraction led (2 ^ (suc (low f) - exponent))
-  downward z h = normal z ∙ scaled-down led (exponent - 1) (low f) (omega arith) ∙ ap (λ (w : ℕ). ofFraction led (2 ^ w)) (omega arith)
+  below-point : 0 < e → e ≤ suc (low f) → ofSize x ≡ ofFraction m (2 ^ (suc (low f) - e))
+  below-point z h = normal z ∙ scaled-down m (e - 1) (low f) (omega arith) ∙ ap (λ (w : ℕ). ofFraction m (2 ^ w)) (omega arith)
 
-  subnormal : hid f ≤ 2 ^ 52 → 84 < low f → exponent ≡ 0 → ofSize x ≡ Is (record { secs = 0; nanos = 0 })
-  subnormal l h z =
+  subnormal : e ≡ 0 → ofSize x ≡ Is (record { secs = 0; nanos = 0 })
+  subnormal z =
       read
-      ∙ ap (λ (y : ℕ). ofFraction (digits f y fraction * 2 ^ (y - 1)) (2 ^ low f)) z
-      ∙ ap (λ (y : ℕ). ofFraction y (2 ^ low f)) (mul-one fraction)
-      ∙ under-half fraction (low f) (omega (arith, fraction-lt)) h
+      ∙ ap (λ (y : ℕ). ofFraction (digits f y t * 2 ^ (y - 1)) (2 ^ low f)) z
+      ∙ ap (λ (y : ℕ). ofFraction y (2 ^ low f)) (mul-one t)
+      ∙ under-half t (prec f - 1) (low f) t-lt (far f)
+    where
+      far : (f : Format) → prec f - 1 + 31 ≤ low f
+      far binary32 = lit≤ tt
+      far binary64 = lit≤ tt
 
-  -- below half a nanosecond
-  pub nothing : hid f ≤ 2 ^ 52 → exponent + 85 ≤ suc (low f) → 84 < low f → ofSize x ≡ Is (record { secs = 0; nanos = 0 })
-  nothing l h k = elim (eq-zero-or-pos exponent) [
-    | inl z ↦ subnormal l k z
-    | inr z ↦ downward z (omega arith) ∙ under-half led (suc (low f) - exponent) (omega (arith, led-lt)) (omega arith)
+  too-small : e + (prec f + 31) ≤ suc (low f) → ofSize x ≡ Is (record { secs = 0; nanos = 0 })
+  too-small h = elim (eq-zero-or-pos e) [
+    | inl z ↦ subnormal z
+    | inr z ↦ below-point z (omega arith) ∙ under-half m (prec f) (suc (low f) - e) (subst (λ (z : ℕ). m < z) (twice f) m-lt) (omega arith)
   ]
+    where
+      twice : (f : Format) → hid f + hid f ≡ 2 ^ prec f
+      twice binary32 = refl
+      twice binary64 = refl
+
+pub pattern : (f : Format) (w : ℕ) → top f ≡ 2 ^ (w + (prec f - 1)) → (x : Float) → fits f x ≡ true → le nought x ≡ true → Pattern f w x
+pattern f w W x F R = record {
+  number = N;
+  bits-lt = toBits-lt f x G;
+  led-lt = m-lt f w W x G N;
+  led-ge = rw (m-is f w W x G N) (omega arith);
+  upward = λ h. sym (sized ∙ above-point f w W x G N h);
+  downward = λ z h. sym (sized ∙ below-point f w W x G N z h);
+  nothing = λ h. sym (sized ∙ too-small f w W x G N h);
+}
+  where
+    G : T (fits f x)
+    G = subst T (sym F) tt
+
+    N : T (not (isNan x))
+    N = is-number x R
+
+    sized : fromSeconds x ≡ ofSize x
+    sized = not-below x (not-below-zero x R)

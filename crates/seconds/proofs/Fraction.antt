@@ -2,7 +2,7 @@
 use mathlib.Core.Path.{_≡_, sym, ap, _∙_}
 use mathlib.Core.Logic.{inl, inr}
 use Prim.Native.Nat.{ℕ, _+_, _-_, _*_, _/_, _%_, _^_, _≤_, _<_}
-use native.Mathlib.Nat.{le-trans, le-of-eq, lt-of-le-of-lt, mul-assoc, mul-right-comm, mul-one, mul-le-mul-right, mul-le-mul-left, le-of-mul-le-mul-right, div-add-mod', div-one, div-eq-of-lt, mod-eq-of-lt, not-le-of-lt}
+use native.Mathlib.Nat.{le-trans, le-of-eq, lt-of-le-of-lt, lt-of-lt-of-le, mul-assoc, mul-right-comm, mul-one, mul-le-mul-right, mul-le-mul-left, le-of-mul-le-mul-right, div-add-mod', div-one, div-eq-of-lt, mod-eq-of-lt, not-le-of-lt}
 use native.Mathlib.Omega.{arith}
 use lib.Dec.{lit<}
 use lib.Pow.{pow-pos, pow-add, pow-mono}
@@ -77,20 +77,21 @@ module _ (m k : ℕ) (M : m < 2 ^ 53) where
       parts : m * 10 ^ 9 ≡ m % 2 ^ k * 10 ^ 9 + m / 2 ^ k * 10 ^ 9 * 2 ^ k
       parts = rw (mul-right-comm (m / 2 ^ k) (10 ^ 9) (2 ^ k)) (omega (arith, div-add-mod' m (2 ^ k)))
 
-  pub under-half : 84 < k → ofFraction m (2 ^ k) ≡ Is (record { secs = 0; nanos = 0 })
-  under-half h =
-      within m (2 ^ k) small
-      ∙ ap exact (at-lt (m * 10 ^ 9 / 2 ^ k) (m * 10 ^ 9 % 2 ^ k * 2) (2 ^ k) (rw (mod-eq-of-lt once) lt) ∙ div-eq-of-lt once)
-      ∙ sym (exact-is (lit< tt) (lit< tt) (omega arith))
-    where
-      far : 84 ≤ k
-      far = omega arith
+-- an m of b digits, 31 and more places below: less than half a nanosecond
+pub under-half : (m b k : ℕ) → m < 2 ^ b → b + 31 ≤ k → ofFraction m (2 ^ k) ≡ Is (record { secs = 0; nanos = 0 })
+under-half m b k M h =
+    within m (2 ^ k) (omega (arith, lt))
+    ∙ ap exact (at-lt (m * 10 ^ 9 / 2 ^ k) (m * 10 ^ 9 % 2 ^ k * 2) (2 ^ k) (rw (mod-eq-of-lt once) lt) ∙ div-eq-of-lt once)
+    ∙ sym (exact-is (lit< tt) (lit< tt) (omega arith))
+  where
+    half : (m d : ℕ) → m < d → m * 10 ^ 9 * 2 < d * 2 ^ 31
+    half m d h = omega arith
 
-      lt : m * 10 ^ 9 * 2 < 2 ^ k
-      lt = omega (arith, pow-mono far)
+    lt : m * 10 ^ 9 * 2 < 2 ^ k
+    lt = lt-of-lt-of-le (half m (2 ^ b) M) (le-trans (le-of-eq (sym (pow-add 2 b 31))) (pow-mono h))
 
-      once : m * 10 ^ 9 < 2 ^ k
-      once = omega (arith, lt)
+    once : m * 10 ^ 9 < 2 ^ k
+    once = omega (arith, lt)
 
 pub below-second : (k x : ℕ) → x < 2 ^ k → closest (x * 10 ^ 9) (2 ^ k) ≤ 10 ^ 9
 below-second k x h = closest-le (x * 10 ^ 9) (2 ^ k) (10 ^ 9) (pow-pos k) (omega arith)

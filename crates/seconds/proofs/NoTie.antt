@@ -1,7 +1,7 @@
--- The way of `tiny`: m / 2 ^ k seconds with m so far below 2 ^ k that no tie can be, since 5 ^ 9 is odd. Assumes nothing.
+-- The ways of `tiny` and `faint`: m / 2 ^ k seconds with m so far below 2 ^ k that no tie can be, since 5 ^ 9 is odd. Assumes nothing.
 use mathlib.Core.Path.{_≡_, refl, sym, ap, _∙_, subst}
 use Prim.Native.Nat.{ℕ, zero, suc, _+_, _-_, _*_, _/_, _%_, _^_, _≤_, _<_}
-use native.Mathlib.Nat.{zero-mod, mul-one, mul-add, mul-assoc, zero-add, mul-comm, div-add-mod', pow-succ', le-trans, lt-of-lt-of-le}
+use native.Mathlib.Nat.{mul-one, mul-add, add-mul, mul-assoc, zero-add, add-zero, mul-comm, div-add-mod', pow-succ', le-trans, lt-of-lt-of-le}
 use native.Mathlib.Omega.{arith}
 use lib.Dec.{lit<}
 use lib.Pow.{pow-pos, pow-add, pow-mono}
@@ -44,73 +44,79 @@ odd-factor (suc i) m z e h = back m (2 ^ i * z) (odd-factor i (m / 2) z (down m 
         none : (m d r : ℕ) → m ≡ d * 2 + r → d ≡ 0 → r ≡ 0 → m ≡ 0
         none m d r e z y = omega arith
 
--- what a tie would be: half of a unit of h + h, over 2 ^ 32
-half-unit : (m a h q p : ℕ) → a ≡ q * (h + h) + h → a * 2 ^ 32 ≡ m * 10 ^ 9 → h * 2 ^ 32 ≡ p * 512 → m * 1953125 ≡ p * (q + q + 1)
-half-unit m a h q p e f g = done m a h (q * (h + h)) (q * p) p e f g big ∙ sym (mul-add p (q + q) 1 ∙ ap (λ (z : ℕ). z + p * 1) (mul-add p q q ∙ ap (λ (z : ℕ). z + z) (mul-comm p q)) ∙ ap (λ (z : ℕ). q * p + q * p + z) (mul-one p))
+-- a tie would be an odd number of halves t of a unit, with the nine twos of 10 ^ 9 and i more
+no-odd-half : (m t q i : ℕ) → m * 10 ^ 9 ≡ q * (t + t) + t → t ≡ 2 ^ i * 512 → m < 2 ^ i → ⊥
+no-odd-half m t q i e f h = some (odd-factor i m (q + q + 1) is h) is
   where
-    unit : (h p : ℕ) → h * 2 ^ 32 ≡ p * 512 → (h + h) * 2 ^ 32 ≡ (p + p) * 512
-    unit h p g = omega arith
+    out : q * (t + t) ≡ (2 ^ i * q + 2 ^ i * q) * 512
+    out = mul-add q t t ∙ ap (λ (z : ℕ). z + z) (ap (λ (z : ℕ). q * z) f ∙ sym (mul-assoc q (2 ^ i) 512) ∙ ap (λ (z : ℕ). z * 512) (mul-comm q (2 ^ i))) ∙ sym (add-mul (2 ^ i * q) (2 ^ i * q) 512)
 
-    big : q * (h + h) * 2 ^ 32 ≡ (q * p + q * p) * 512
-    big = mul-assoc q (h + h) (2 ^ 32) ∙ ap (λ (z : ℕ). q * z) (unit h p g) ∙ sym (mul-assoc q (p + p) 512) ∙ ap (λ (z : ℕ). z * 512) (mul-add q p p)
+    whole : 2 ^ i * (q + q + 1) ≡ 2 ^ i * q + 2 ^ i * q + 2 ^ i
+    whole = mul-add (2 ^ i) (q + q) 1 ∙ ap (λ (z : ℕ). z + 2 ^ i * 1) (mul-add (2 ^ i) q q) ∙ ap (λ (z : ℕ). 2 ^ i * q + 2 ^ i * q + z) (mul-one (2 ^ i))
 
-    done : (m a h y x p : ℕ) → a ≡ y + h → a * 2 ^ 32 ≡ m * 10 ^ 9 → h * 2 ^ 32 ≡ p * 512 → y * 2 ^ 32 ≡ (x + x) * 512 → m * 1953125 ≡ x + x + p
-    done m a h y x p e f g b = omega arith
+    less : (m y t x p : ℕ) → m * 10 ^ 9 ≡ y + t → t ≡ p * 512 → y ≡ x * 512 → m * 1953125 ≡ x + p
+    less m y t x p e f g = omega arith
 
--- ---- the upper word of m * 10 ^ 9, and half a unit
+    is : m * 1953125 ≡ 2 ^ i * (q + q + 1)
+    is = less m (q * (t + t)) t (2 ^ i * q + 2 ^ i * q) (2 ^ i) e f out ∙ sym whole
+
+    some : m ≡ 0 → m * 1953125 ≡ 2 ^ i * (q + q + 1) → ⊥
+    some z e = omega (arith, whole, pow-pos i)
+
+-- ---- half a unit of h + h is added to a, which is m * 10 ^ 9 over p but for a rest b
+no-tie : (m a b p h k : ℕ) → 0 < h → b < p → a * p + b ≡ m * 10 ^ 9 → (h + h) * p ≡ 2 ^ k → 10 ≤ k → m < 2 ^ (k - 10) → (a + h) / (h + h) ≡ closest (m * 10 ^ 9) (2 ^ k)
+no-tie m a b p h k H B e g K M = by-half a b p h H B never ∙ ap (λ (z : ℕ). closest z ((h + h) * p)) e ∙ ap (λ (z : ℕ). closest (m * 10 ^ 9) z) g
+  where
+    back : (k : ℕ) → 10 ≤ k → k - 10 + 10 ≡ k
+    back k h = omega arith
+
+    half : (t g u : ℕ) → g ≡ t + t → g ≡ u * 1024 → t ≡ u * 512
+    half t g u e f = omega arith
+
+    exact : (x y b : ℕ) → x + b ≡ y → b ≡ 0 → y ≡ x
+    exact x y b e z = omega arith
+
+    never : a % (h + h) ≡ h → b ≡ 0 → ⊥
+    never f z =
+        no-odd-half m (h * p) (a / (h + h)) (k - 10)
+        (exact (a * p) (m * 10 ^ 9) b e z
+        ∙ ap (λ (w : ℕ). w * p) (sym (div-add-mod' a (h + h)) ∙ ap (λ (w : ℕ). a / (h + h) * (h + h) + w) f)
+        ∙ add-mul (a / (h + h) * (h + h)) h p
+        ∙ ap (λ (w : ℕ). w + h * p) (mul-assoc (a / (h + h)) (h + h) p ∙ ap (λ (w : ℕ). a / (h + h) * w) (add-mul h h p)))
+        (half (h * p) (2 ^ k) (2 ^ (k - 10)) (sym g ∙ add-mul h h p) (ap (λ (w : ℕ). 2 ^ w) (sym (back k K)) ∙ pow-add 2 (k - 10) 10))
+        M
+
+-- `tiny` has the upper word of m * 10 ^ 9
 abbrev pub upper : ℕ → ℕ
 upper m = m / 0x1_0000_0000 * 1000000000 + m % 0x1_0000_0000 * 1000000000 / 0x1_0000_0000
 
-pub no-tie : (m k : ℕ) {half : ℕ} → 32 < k → m < 2 ^ (k - 10) → half ≡ 2 ^ (k - 33) → (upper m + half) / 2 ^ (k - 32) ≡ closest (m * 10 ^ 9) (2 ^ k)
-no-tie m k {half} K M e =
+pub tiny-nanos : (m k : ℕ) {half : ℕ} → 32 < k → m < 2 ^ (k - 10) → half ≡ 2 ^ (k - 33) → (upper m + half) / 2 ^ (k - 32) ≡ closest (m * 10 ^ 9) (2 ^ k)
+tiny-nanos m k {half} K M e =
     ap (λ (z : ℕ). (upper m + z) / 2 ^ (k - 32)) e
-    ∙ ap (λ (z : ℕ). (upper m + h) / z) (sym twice)
-    ∙ by-half (upper m) b (2 ^ 32) h (pow-pos (k - 33)) B never
-    ∙ ap (λ (z : ℕ). closest z ((h + h) * 2 ^ 32)) (words m)
-    ∙ ap (λ (z : ℕ). closest (m * 10 ^ 9) z) (ap (λ (z : ℕ). z * 2 ^ 32) twice ∙ sym (pow-add 2 (k - 32) 32) ∙ ap (λ (z : ℕ). 2 ^ z) (whole k K))
+    ∙ ap (λ (z : ℕ). (upper m + 2 ^ (k - 33)) / z) (sym twice)
+    ∙ no-tie m (upper m) (m % 0x1_0000_0000 * 1000000000 % 0x1_0000_0000) (2 ^ 32) (2 ^ (k - 33)) k (pow-pos (k - 33)) (omega arith) (words m)
+    (ap (λ (z : ℕ). z * 2 ^ 32) twice ∙ sym (pow-add 2 (k - 32) 32) ∙ ap (λ (z : ℕ). 2 ^ z) (whole k K))
+    (omega arith)
+    M
   where
-    h : ℕ
-    h = 2 ^ (k - 33)
-
-    b : ℕ
-    b = m % 0x1_0000_0000 * 1000000000 % 0x1_0000_0000
-
-    B : b < 2 ^ 32
-    B = omega arith
-
     less : (k : ℕ) → 32 < k → k - 32 - 1 ≡ k - 33
     less k h = omega arith
 
     whole : (k : ℕ) → 32 < k → k - 32 + 32 ≡ k
     whole k h = omega arith
 
-    some : (k : ℕ) → 32 < k → 0 < k - 32
-    some k h = omega arith
+    twice : 2 ^ (k - 33) + 2 ^ (k - 33) ≡ 2 ^ (k - 32)
+    twice = subst (λ (z : ℕ). 2 ^ z + 2 ^ z ≡ 2 ^ (k - 32)) (less k K) (halves (k - 32) (omega arith))
 
-    places : (k : ℕ) → 32 < k → k - 33 + 32 ≡ k - 10 + 9
-    places k h = omega arith
-
-    twice : h + h ≡ 2 ^ (k - 32)
-    twice = subst (λ (z : ℕ). 2 ^ z + 2 ^ z ≡ 2 ^ (k - 32)) (less k K) (halves (k - 32) (some k K))
-
-    units : h * 2 ^ 32 ≡ 2 ^ (k - 10) * 512
-    units = sym (pow-add 2 (k - 33) 32) ∙ ap (λ (z : ℕ). 2 ^ z) (places k K) ∙ pow-add 2 (k - 10) 9
-
-    none-left : (m h : ℕ) → m ≡ 0 → upper m % (h + h) ≡ h → 0 < h → ⊥
-    none-left m h z e H = absurd (omega (arith, subst (λ (w : ℕ). upper w % (h + h) ≡ h) z e, zero-mod (h + h)))
-
-    never : upper m % (h + h) ≡ h → b ≡ 0 → ⊥
-    never f z =
-        none-left m h
-        (odd-factor (k - 10) m (q + q + 1) (half-unit m (upper m) h q (2 ^ (k - 10)) (sym (div-add-mod' (upper m) (h + h)) ∙ ap (λ (w : ℕ). q * (h + h) + w) f) (exact m (upper m) b (words m) z) units) M)
-        f
-        (pow-pos (k - 33))
-      where
-        q : ℕ
-        q = upper m / (h + h)
-
-        exact : (m a b : ℕ) → a * 2 ^ 32 + b ≡ m * 10 ^ 9 → b ≡ 0 → a * 2 ^ 32 ≡ m * 10 ^ 9
-        exact m a b e z = omega arith
+-- `faint` has the whole of it
+pub faint-nanos : (m k : ℕ) {half : ℕ} → 10 ≤ k → m < 2 ^ (k - 10) → half ≡ 2 ^ (k - 1) → (m * 10 ^ 9 + half) / 2 ^ k ≡ closest (m * 10 ^ 9) (2 ^ k)
+faint-nanos m k {half} K M e =
+    ap (λ (z : ℕ). (m * 10 ^ 9 + z) / 2 ^ k) e
+    ∙ ap (λ (z : ℕ). (m * 10 ^ 9 + 2 ^ (k - 1)) / z) (sym twice)
+    ∙ no-tie m (m * 10 ^ 9) 0 1 (2 ^ (k - 1)) k (pow-pos (k - 1)) (lit< tt) (add-zero (m * 10 ^ 9 * 1) ∙ mul-one (m * 10 ^ 9)) (mul-one (2 ^ (k - 1) + 2 ^ (k - 1)) ∙ twice) K M
+  where
+    twice : 2 ^ (k - 1) + 2 ^ (k - 1) ≡ 2 ^ k
+    twice = halves k (omega arith)
 
 -- ---- the answer
 pub apart : (m b k : ℕ) → m < 2 ^ b → b + 10 ≤ k → m < 2 ^ (k - 10)

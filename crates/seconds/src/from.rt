@@ -1,4 +1,5 @@
 // Floats in: float seconds as a duration, and a duration times and over a float.
+use crate::from::fraction::faint;
 use crate::from::fraction::large;
 use crate::from::fraction::near;
 use crate::from::fraction::short;
@@ -45,16 +46,16 @@ pub fn try_from_secs_f32(x: f32) -> Answer
         let bits = f32::to_bits(x) as u64;
         let exponent = (bits >> 23) & 0xff;
         let m = bits & 0x7f_ffff | 0x80_0000;
-        if exponent >= 117 {
-            if exponent < 150 {
-                return short(m, 150 - exponent);
-            }
+        if exponent >= 150 {
             return large(m, exponent - 150, 40);
         }
-        if exponent < 66 {
-            return Answer::Is(Duration { secs: 0, nanos: 0 });
+        if exponent >= 117 {
+            return short(m, 150 - exponent);
         }
-        return tiny(m, 150 - exponent);
+        if exponent >= 95 {
+            return faint(m, 150 - exponent);
+        }
+        return Answer::Is(Duration { secs: 0, nanos: 0 });
     }
     if x < 0.0 {
         return Answer::Refused(Refusal::Negative);

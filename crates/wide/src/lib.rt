@@ -46,30 +46,41 @@ pub fn widening_mul(a: u64, b: u64) -> Wide
     }
 }
 
-// a * b + c, which always fits two words. A b of half a word takes two products where a whole one takes four.
+// a * b + c, which always fits two words.
 pub fn scaled(a: u64, b: u32, c: u32) -> Wide
     ensures { λ r. ⌜ r ≡ words (a * b + c) ⌝ }
 {
-    let k = b as u64;
-    let low = a % 0x1_0000_0000 * k + c as u64;
-    let high = a / 0x1_0000_0000 * k + low / 0x1_0000_0000;
+    let p = widening_mul(a, b as u64);
+    let low = carry::plus(p.lo, c as u64);
     Wide {
-        hi: high / 0x1_0000_0000,
-        lo: high % 0x1_0000_0000 * 0x1_0000_0000 + low % 0x1_0000_0000,
+        hi: p.hi + low.over,
+        lo: low.word,
     }
 }
 
-// x * y. Two numbers of two words each always have a product of more.
+// x * y. Two numbers of two words each always have a product of more: one of the two cross products is then 0. The words are
+// counted, since two tests one after the other would be a branch that is not to be foretold.
 pub fn mul(x: Wide, y: Wide) -> WideAnswer
     ensures { λ r. ⌜ r ≡ answer (wide x * wide y) ⌝ }
 {
-    if x.hi == 0 {
-        return product::scale(y, x.lo);
+    let h = x.hi;
+    let l = x.lo;
+    let k = y.hi;
+    let j = y.lo;
+    if 1 < (0 < h) as u64 + (0 < k) as u64 {
+        return WideAnswer::Refused(Refusal::Overflow);
     }
-    if y.hi == 0 {
-        return product::scale(x, y.lo);
+    if 0 < product::high(h, j) {
+        return WideAnswer::Refused(Refusal::Overflow);
     }
-    WideAnswer::Refused(Refusal::Overflow)
+    if 0 < product::high(k, l) {
+        return WideAnswer::Refused(Refusal::Overflow);
+    }
+    let top = Wide {
+        hi: product::low(h, j) + product::low(k, l),
+        lo: 0,
+    };
+    add(top, widening_mul(l, j))
 }
 
 // x + y.
@@ -125,25 +136,23 @@ pub fn compare(x: Wide, y: Wide) -> Order
     Order::Equal
 }
 
-// x * 2^n. From 64 on the low word moves up whole, and from 128 on only zero has room.
+// x * 2^n, where x has room for it. Zero has room for any shift.
 pub fn shl(x: Wide, n: u32) -> WideAnswer
     ensures { λ r. ⌜ r ≡ answer (wide x * 2 ^ n) ⌝ }
 {
     let h = x.hi;
     let l = x.lo;
-    if n < 64 {
-        return shift::up(h, l, n);
-    }
-    if 0 < h {
+    let room = shift::room(h, l);
+    if room < n as u64 {
+        if room == 128 {
+            return WideAnswer::Is(x);
+        }
         return WideAnswer::Refused(Refusal::Overflow);
     }
-    if n < 128 {
-        return shift::up(l, 0, n - 64);
-    }
-    if 0 < l {
-        return WideAnswer::Refused(Refusal::Overflow);
-    }
-    WideAnswer::Is(x)
+    WideAnswer::Is(Wide {
+        hi: shift::high_up(h, l, n),
+        lo: shift::word_up(l, n),
+    })
 }
 
 // x / 2^n, rounded down.

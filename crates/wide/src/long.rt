@@ -22,11 +22,10 @@ fn times(q: u64, d: Wide) -> Wide
     requires { ⌜ (q < 2 ^ 32) × (q * wide d < 2 ^ 128) ⌝ }
     ensures { λ r. ⌜ wide r ≡ q * wide d ⌝ }
 {
-    let low = q * (d.lo % HALF);
-    let middle = q * (d.lo / HALF) + low / HALF;
+    let low = super::widening_mul(q, d.lo);
     Wide {
-        hi: q * d.hi + middle / HALF,
-        lo: middle % HALF * HALF + low % HALF,
+        hi: q * d.hi + low.hi,
+        lo: low.lo,
     }
 }
 

@@ -56,16 +56,16 @@ pub fn near(m: u64, k: u64) -> Answer
     carried(m >> k, nanos(m << (64 - k), 32))
 }
 
-// m / 2^k seconds, for a short m: one product, and no carry.
+// m / 2^k seconds, for a short m: one shift for both parts, one product, and no carry.
 pub fn short(m: u64, k: u64) -> Answer
     requires { ⌜ (m < 2 ^ 24) × (0 < k) × (k ≤ 34) ⌝ }
     ensures { λ r. ⌜ r ≡ ofFraction m (2 ^ k) ⌝ }
 {
-    let f = (m << (64 - k)) / 0x4000_0000;
-    let p = f * 1_000_000_000;
+    let v = m << (34 - k);
+    let p = v % 0x4_0000_0000 * 1_000_000_000;
     let n = (p + 0x1_ffff_ffff + p / 0x4_0000_0000 % 2) / 0x4_0000_0000;
     Answer::Is(Duration {
-        secs: m >> k,
+        secs: v / 0x4_0000_0000,
         nanos: n as u32,
     })
 }
@@ -77,6 +77,18 @@ pub fn tiny(m: u64, k: u64) -> Answer
 {
     let a = m / 0x1_0000_0000 * 1_000_000_000 + m % 0x1_0000_0000 * 1_000_000_000 / 0x1_0000_0000;
     let n = (a + (1u64 << (k - 33))) >> (k - 32);
+    Answer::Is(Duration {
+        secs: 0,
+        nanos: n as u32,
+    })
+}
+
+// m / 2^k seconds, for a short m so far below 2^k that there is no tie: one product, and half a unit is added.
+pub fn faint(m: u64, k: u64) -> Answer
+    requires { ⌜ (m < 2 ^ 24) × (34 ≤ k) × (k ≤ 55) ⌝ }
+    ensures { λ r. ⌜ r ≡ ofFraction m (2 ^ k) ⌝ }
+{
+    let n = (m * 1_000_000_000 + (1u64 << (k - 1))) >> k;
     Answer::Is(Duration {
         secs: 0,
         nanos: n as u32,

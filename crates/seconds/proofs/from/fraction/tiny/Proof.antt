@@ -6,7 +6,7 @@ use Prim.Native.Nat.{_+_, _*_, _/_, _%_, _-_, _^_, _≤_}
 use lib.Pow.{pow-mono}
 use lib.Ieee.Nearest.{closest}
 use Rattle.seconds.proofs.Rounding.{one-shl}
-use Rattle.seconds.proofs.NoTie.{upper, no-tie, tiny-is, tiny-le, halved}
+use Rattle.seconds.proofs.NoTie.{upper, tiny-nanos, tiny-is, tiny-le, halved}
 use Rattle.seconds.proofs.from.fraction.tiny.Statement.{statement}
 use Rattle.seconds.proofs.from.fraction.tiny.Tie as tie
 
@@ -20,7 +20,7 @@ twice : (c : tie.Start) → c .args .m * 2 ≤ 2 ^ c .args .k
 twice c = halved (c .args .m) (c .args .k) (c .pre .2) (c .pre .1)
 
 n-is : (c : tie.Start) → (upper (c .args .m) + 1 * 2 ^ (c .args .k - 33) % 2 ^ 64) / 2 ^ (c .args .k - 32) ≡ closest (c .args .m * 10 ^ 9) (2 ^ c .args .k)
-n-is c = no-tie (c .args .m) (c .args .k) (c .pre .2) (c .pre .1) (half-is c)
+n-is c = tiny-nanos (c .args .m) (c .args .k) (c .pre .2) (c .pre .1) (half-is c)
 
 add-n : tie.Need-add-n
 add-n c = omega (arith, half-is c, half-le c)
