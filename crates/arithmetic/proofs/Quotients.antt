@@ -2,7 +2,7 @@
 use mathlib.Core.Path.{_≡_, refl, sym, ap, _∙_}
 use mathlib.Core.Bool.{Bool, true, false, cond}
 use Prim.Native.Nat.{ℕ, _+_, _*_, _-_, _/_, _%_, _^_, _≤_, _<_}
-use native.Mathlib.Nat.{div-add-mod', mod-lt, mod-le, div-le-self, div-lt-iff-lt-mul, lt-trans, add-zero, pos-of-ne-zero}
+use native.Mathlib.Nat.{div-add-mod', div-eq-of-lt, mod-lt, mod-eq-of-lt, div-le-self, div-lt-iff-lt-mul, le-mul-of-pos-right, lt-trans, add-zero, pos-of-ne-zero}
 use native.Mathlib.Omega.{arith}
 use lib.Arith.{digits-div}
 use lib.Dec.{eqb}
@@ -15,37 +15,15 @@ use Rattle.wide.specs.declared.DivAnswer.the-variants.{Divided, Refused as NotD
 use Rattle.wide.specs.declared.WideAnswer.{WideAnswer}
 use Rattle.wide.specs.declared.WideAnswer.the-variants as Wide
 use Rattle.wide.specs.Wide.{wide, words, answer, division}
-use Rattle.wide.proofs.Laws.{wide-words, words-of, answer-is, division-is, division-zero, division-told, zero-divisor-told}
+use Rattle.wide.proofs.Laws.{wide-words, words-of, answer-is, division-told, zero-divisor-told}
 use Rattle.duration.specs.declared.Duration.{Duration}
 use Rattle.duration.specs.Meaning.{N}
-use Rattle.arithmetic.specs.Arithmetic.{floorOf, ceilOf}
+use Rattle.arithmetic.specs.Arithmetic.{quotientOf, floorOf, ceilOf}
 use Rattle.duration.proofs.Valid.{is-valid}
 
 -- the division of two durations is that of their counts in two words
 pub of-counts : (a b : Duration) {n d : Wide} → n ≡ words (N a) → d ≡ words (N b) → division (wide n) (wide d) ≡ division (N a) (N b)
 of-counts a b e f = λ i. division ((ap wide e ∙ wide-words (N a)) i) ((ap wide f ∙ wide-words (N b)) i)
-
--- a number of one word, by one of two, and by one of one
-module _ (n d : Wide) (h : n .hi ≡ 0) (b : n .lo < 2 ^ 64) where
-  pub by-longer : 0 < d .hi → Divided (record { quotient = record { hi = 0; lo = 0 }; remainder = n }) ≡ division (wide n) (wide d)
-  unfolding wide
-  by-longer k = division-is (wide n) (wide d) (record { quotient = record { hi = 0; lo = 0 }; remainder = n }) (omega arith) b (omega arith) (omega arith)
-
-  pub by-zero : d .hi ≡ 0 → d .lo ≡ 0 → NotDivided ZeroDivisor ≡ division (wide n) (wide d)
-  unfolding wide
-  by-zero k l = division-zero (wide n) (wide d) (omega arith)
-
-  pub by-word : d .hi ≡ 0 → (d .lo ≡ 0 → ⊥)
-      → Divided (record { quotient = record { hi = 0; lo = n .lo / d .lo }; remainder = record { hi = 0; lo = n .lo % d .lo } }) ≡ division (wide n) (wide d)
-  unfolding wide
-  by-word k l =
-      let p : 0 < d .lo = pos-of-ne-zero l in
-      let m : d .hi * 2 ^ 64 + d .lo ≡ d .lo = omega arith in
-      division-is (wide n) (wide d) (record { quotient = record { hi = 0; lo = n .lo / d .lo }; remainder = record { hi = 0; lo = n .lo % d .lo } })
-      (omega (arith, div-le-self (n .lo) (d .lo)))
-      (omega (arith, mod-le (n .lo) (d .lo)))
-      (rw m (omega (arith, div-add-mod' (n .lo) (d .lo))))
-      (rw m (omega (arith, mod-lt (n .lo) p)))
 
 -- whether two words are zero
 pub nothing-left : (w : Wide) → w .hi ≡ 0 → w .lo ≡ 0 → _≡_ {A = ℕ} 0 (cond (eqb (wide w) 0) 0 1)
@@ -66,6 +44,10 @@ rounded-up n d pos = go (eqb (n % d) 0) refl
         let r : 0 < n % d = pos-of-ne-zero (eqb-false (n % d) 0 e) in
         sym (digits-div (n / d + 1) {m = d} {r = n % d - 1} (omega (arith, mod-lt n pos))) ∙ ap (λ (z : ℕ). z / d) (omega (arith, div-add-mod' n d))
 
+-- which is at most n
+at-most : (n d : ℕ) → 0 < d → (n + (d - 1)) / d ≤ n
+at-most n d pos = let h : (n + (d - 1)) / d < n + 1 = div-lt-iff-lt-mul {k = d} {x = n + (d - 1)} {y = n + 1} pos .1 (omega (arith, le-mul-of-pos-right n pos)) in omega arith
+
 one-at-most : (t : Bool) → cond t 0 1 ≤ 1
 one-at-most true = omega arith
 one-at-most false = omega arith
@@ -75,7 +57,73 @@ small-answer : (n : ℕ) → n ≤ 10 ^ 9 * 2 ^ 64 → answer n ≡ Wide.Is (wor
 unfolding words
 small-answer n h = let u : n / 2 ^ 64 < 10 ^ 9 + 1 = div-lt-iff-lt-mul {k = 2 ^ 64} {x = n} {y = 10 ^ 9 + 1} (omega arith) .1 (omega arith) in sym (answer-is n (omega arith) (lt-trans u (omega arith)) (div-add-mod' n (2 ^ 64)))
 
+pub same-words : (w : Wide) → 0 ≡ w .hi → Wide.Is (record { hi = 0; lo = w .lo }) ≡ Wide.Is w
+same-words w e = λ i. Wide.Is (record { hi = e i; lo = w .lo })
+
+-- ---- a number n of one word
+left-is : (n : ℕ) {y : ℕ} → y ≡ cond (eqb (wide (record { hi = 0; lo = n })) 0) 0 1 → y ≡ cond (eqb n 0) 0 1
+unfolding wide
+left-is n e = let m : 0 * 2 ^ 64 + n ≡ n = omega arith in e ∙ ap (λ (v : ℕ). cond (eqb v 0) 0 1) m
+
+pub quotient-zero : (q : ℕ) (d : Wide) → d .hi ≡ 0 → d .lo ≡ 0 → Wide.Refused ZeroDivisor ≡ quotientOf q (wide d)
+unfolding wide
+quotient-zero q d h l = let e : d .hi * 2 ^ 64 + d .lo ≡ 0 = omega arith in rw (eq-eqb (d .hi * 2 ^ 64 + d .lo) 0 e)
+
+quotient-is : (q d : ℕ) {w : Wide} → 0 < d → w .lo < 2 ^ 64 → wide w ≡ q → Wide.Is w ≡ quotientOf q d
+unfolding wide
+quotient-is q d p l e = let n : d ≡ 0 → ⊥ = λ z. omega arith in rw (ne-eqb d 0 n) (ap Wide.Is (words-of q l e))
+
+module _ (n : ℕ) (d : Wide) (b : n < 2 ^ 64) where
+  -- by a longer one
+  pub floor-longer : 0 < d .hi → Wide.Is (record { hi = 0; lo = 0 }) ≡ quotientOf (n / wide d) (wide d)
+  unfolding wide
+  floor-longer h = quotient-is (n / wide d) (wide d) (omega arith) (omega arith) (sym (div-eq-of-lt (omega arith)))
+
+  pub ceil-longer : {y : ℕ} → 0 < d .hi → y ≡ cond (eqb (wide (record { hi = 0; lo = n })) 0) 0 1 → Wide.Is (record { hi = 0; lo = y }) ≡ quotientOf ((n + (wide d - 1)) / wide d) (wide d)
+  unfolding wide
+  ceil-longer {y} h e =
+      let k : n < wide d = omega arith in
+      let m : y ≡ cond (eqb n 0) 0 1 = left-is n e in
+      let u : n / wide d + cond (eqb (n % wide d) 0) 0 1 ≡ y = (λ i. div-eq-of-lt k i + cond (eqb (mod-eq-of-lt k i) 0) 0 1) ∙ omega (arith, m) in
+      quotient-is ((n + (wide d - 1)) / wide d) (wide d) (omega arith) (omega (arith, m, one-at-most (eqb n 0))) (omega arith ∙ sym u ∙ rounded-up n (wide d) (omega arith))
+
+  -- by one of one word
+  module _ (h : d .hi ≡ 0) (z : d .lo ≡ 0 → ⊥) where
+    word : wide d ≡ d .lo
+    unfolding wide
+    word = omega arith
+
+    pub floor-word : Wide.Is (record { hi = 0; lo = n / d .lo }) ≡ quotientOf (n / wide d) (wide d)
+    unfolding wide
+    floor-word = rw word (quotient-is (n / d .lo) (d .lo) (pos-of-ne-zero z) (omega (arith, div-le-self n (d .lo))) (omega arith))
+
+    gains : n / d .lo + cond (eqb (n % d .lo) 0) 0 1 ≤ n
+    gains = rw (rounded-up n (d .lo) (pos-of-ne-zero z)) (at-most n (d .lo) (pos-of-ne-zero z))
+
+    pub ceil-room : {y : ℕ} → y ≡ cond (eqb (wide (record { hi = 0; lo = n % d .lo })) 0) 0 1 → n / d .lo + y < 2 ^ 64
+    unfolding wide
+    ceil-room e = omega (arith, left-is (n % d .lo) e, gains)
+
+    pub ceil-word : {y : ℕ} → y ≡ cond (eqb (wide (record { hi = 0; lo = n % d .lo })) 0) 0 1 → Wide.Is (record { hi = 0; lo = n / d .lo + y }) ≡ quotientOf ((n + (wide d - 1)) / wide d) (wide d)
+    unfolding wide
+    ceil-word {y} e =
+        rw word (quotient-is ((n + (d .lo - 1)) / d .lo) (d .lo) (pos-of-ne-zero z) (ceil-room e) (omega arith ∙ ap (λ (v : ℕ). n / d .lo + v) (left-is (n % d .lo) e) ∙ rounded-up n (d .lo) (pos-of-ne-zero z)))
+
 module _ (a b : Duration) (p : a .nanos < 10 ^ 9) (q : b .nanos < 10 ^ 9) where
+  -- where a has one word of nanoseconds
+  module _ {n d : Wide} (e : n ≡ words (N a)) (f : d ≡ words (N b)) (h : n .hi ≡ 0) where
+    word-of : n .lo ≡ N a
+    unfolding wide
+    word-of = omega (arith, h, ap wide e ∙ wide-words (N a))
+
+    pub floor-short : {z : WideAnswer} → z ≡ quotientOf (n .lo / wide d) (wide d) → z ≡ floorOf a b
+    unfolding floorOf
+    floor-short g = rw (is-valid a p, is-valid b q) (g ∙ (λ i. quotientOf (word-of i / (ap wide f ∙ wide-words (N b)) i) ((ap wide f ∙ wide-words (N b)) i)))
+
+    pub ceil-short : {z : WideAnswer} → z ≡ quotientOf ((n .lo + (wide d - 1)) / wide d) (wide d) → z ≡ ceilOf a b
+    unfolding ceilOf
+    ceil-short g = rw (is-valid a p, is-valid b q) (g ∙ (λ i. quotientOf ((word-of i + ((ap wide f ∙ wide-words (N b)) i - 1)) / (ap wide f ∙ wide-words (N b)) i) ((ap wide f ∙ wide-words (N b)) i)))
+
   pub floor-zero : {f : Refusal} → NotDivided f ≡ division (N a) (N b) → Wide.Refused f ≡ floorOf a b
   unfolding floorOf
   floor-zero e = let t = zero-divisor-told (N a) (N b) e in rw (is-valid a p, is-valid b q, eq-eqb (N b) 0 (t .1)) (ap Wide.Refused (t .0))

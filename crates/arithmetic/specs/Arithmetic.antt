@@ -30,13 +30,17 @@ times d k = cond (valid d) (exact (N d * k)) (Refused BadDuration)
 unfoldable pub shared : Duration → ℕ → Answer
 shared d k = cond (valid d) (cond (eqb k 0) (Refused ZeroDivisor) (exact (N d / k))) (Refused BadDuration)
 
--- how many times a holds b, rounded down, or ZeroDivisor exactly where b is ZERO
+-- a quotient q by d, or ZeroDivisor exactly where d is 0
+abbrev pub quotientOf : ℕ → ℕ → WideAnswer
+quotientOf q d = cond (eqb d 0) (Wide.Refused ZeroDivisor) (Wide.Is (words q))
+
+-- how many times a holds b, rounded down
 unfoldable pub floorOf : Duration → Duration → WideAnswer
-floorOf a b = cond (valid a && valid b) (cond (eqb (N b) 0) (Wide.Refused ZeroDivisor) (Wide.Is (words (N a / N b)))) (Wide.Refused BadDuration)
+floorOf a b = cond (valid a && valid b) (quotientOf (N a / N b) (N b)) (Wide.Refused BadDuration)
 
 -- the same, rounded up
 unfoldable pub ceilOf : Duration → Duration → WideAnswer
-ceilOf a b = cond (valid a && valid b) (cond (eqb (N b) 0) (Wide.Refused ZeroDivisor) (Wide.Is (words ((N a + (N b - 1)) / N b)))) (Wide.Refused BadDuration)
+ceilOf a b = cond (valid a && valid b) (quotientOf ((N a + (N b - 1)) / N b) (N b)) (Wide.Refused BadDuration)
 
 -- what a saturating operation answers in place of an answer: MAX for refusal 3, ZERO for 4, and else the same
 unfoldable pub saturated : Answer → Answer

@@ -114,10 +114,15 @@ pub fn div_duration_floor(a: Duration, b: Duration) -> WideAnswer
     if 1_000_000_000 <= b.nanos {
         return WideAnswer::Refused(Refusal::BadDuration);
     }
-    match quotient::divided(a, b) {
+    let n = wide::scaled(a.secs, 1_000_000_000, a.nanos);
+    let d = wide::scaled(b.secs, 1_000_000_000, b.nanos);
+    if n.hi == 0 {
+        return quotient::short_floor(n.lo, d);
+    }
+    match wide::div(n, d) {
         DivAnswer::Divided(x) => {
             let whole = x.quotient;
-            WideAnswer::Is(whole)
+            quotient::given(whole)
         }
         DivAnswer::Refused(r) => WideAnswer::Refused(r),
     }
@@ -133,7 +138,12 @@ pub fn div_duration_ceil(a: Duration, b: Duration) -> WideAnswer
     if 1_000_000_000 <= b.nanos {
         return WideAnswer::Refused(Refusal::BadDuration);
     }
-    match quotient::divided(a, b) {
+    let n = wide::scaled(a.secs, 1_000_000_000, a.nanos);
+    let d = wide::scaled(b.secs, 1_000_000_000, b.nanos);
+    if n.hi == 0 {
+        return quotient::short_ceil(n.lo, d);
+    }
+    match wide::div(n, d) {
         DivAnswer::Divided(x) => {
             let whole = x.quotient;
             let left = x.remainder;

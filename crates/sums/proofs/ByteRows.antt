@@ -1,9 +1,10 @@
 -- Rows that stand as bytes, eight of seconds and four of nanoseconds for each. Assumes nothing.
 use mathlib.Core.Path.{_≡_, sym, ap, _∙_}
 use mathlib.Core.List.{List}
-use Prim.Native.Nat.{ℕ, _+_, _*_, _-_, _/_, _^_, _≤_, _<_, max}
+use Prim.Native.Nat.{ℕ, _+_, _*_, _-_, _/_, _^_, _≤_, _<_}
 use native.Mathlib.Omega.{arith}
 use lib.ListN.{length, take, drop, getD}
+use lib.Bits.{bitOr}
 use Rattle.laws.specs.Bytes.{wordAt, decoded}
 use Rattle.laws.proofs.Decoded.{length-decoded, decoded-at, decoded-part, halves}
 use Rattle.sums.specs.declared.run.Run.{Run}
@@ -23,7 +24,7 @@ module _ (ss ns : List ℕ) (e : length ss / 8 ≡ length ns / 4) where
   -- the row at i, passed by a loop
   pub byte-passed : (i : ℕ) {r t : Run} {h l y : ℕ} → i < length ss / 8 → Sum (take i (rows (decoded 8 ss) (decoded 4 ns))) r
       → l ≡ wordAt 4 (i * 8) ss → h ≡ wordAt 4 (i * 8 + 4) ss → y ≡ wordAt 4 (i * 4) ns → h < 2 ^ 32 → l < 2 ^ 32 → y < 2 ^ 32
-      → t ≡ record { high = r .high + h; low = r .low + l; nanos = r .nanos + y; worst = max (r .worst) y } → Sum (take (i + 1) (rows (decoded 8 ss) (decoded 4 ns))) t
+      → t ≡ record { high = r .high + h; low = r .low + l; nanos = r .nanos + y; bad = bitOr (r .bad) (y + 3294967296) } → Sum (take (i + 1) (rows (decoded 8 ss) (decoded 4 ns))) t
   byte-passed i k s a b d =
       passed (decoded 8 ss) (decoded 4 ns) i same-rows (rw (length-decoded 8 ss) k) s ((λ j. b j * 2 ^ 32 + a j) ∙ secs-at i k) (d ∙ sym (decoded-at 4 i ns (omega arith)))
 

@@ -1,10 +1,11 @@
 -- What a sum that is not carried yet stands for: what the contracts of the private functions of `sum` cite. Assumes nothing.
-use Prim.Native.Nat.{ℕ, _+_, _*_, _^_, _≤_, _<_, min, max}
+use Prim.Native.Nat.{ℕ, _+_, _*_, _^_, _≤_, _<_, min}
 use mathlib.Core.Path.{_≡_}
 use mathlib.Core.Bool.{cond}
 use mathlib.Core.List.{List}
 use lib.ListN.{length}
 use lib.Dec.{ltb}
+use lib.Bits.{bitOr}
 use Rattle.refusal.specs.declared.Refusal.the-variants.{BadRow}
 use Rattle.duration.specs.declared.Duration.{Duration}
 use Rattle.sums.specs.declared.SumAnswer.{SumAnswer}
@@ -24,7 +25,7 @@ limit = 2 ^ 64 * 10 ^ 9
 -- r is the sum of the rows, with no carry
 pub record Sum (ds : List Duration) (r : Run) : Type 0 where
   pub all : worth r ≡ total ds
-  pub good : ltb (r .worst) (10 ^ 9) ≡ allValid ds
+  pub good : ltb (r .bad) (2 ^ 32) ≡ allValid ds
   pub high : r .high ≤ length ds * 2 ^ 32
   pub low : r .low ≤ length ds * 2 ^ 32
   pub nanos : r .nanos ≤ length ds * 2 ^ 32
@@ -44,9 +45,9 @@ pub record Carried (r : Run) : Type 0 where
 -- r is the sum of t and b, held at the limit
 pub record Joined (t b r : Run) : Type 0 where
   pub all : min (worth r) limit ≡ min (worth t + worth b) limit
-  pub worst : r .worst ≡ max (t .worst) (b .worst)
+  pub bad : r .bad ≡ bitOr (t .bad) (b .bad)
   pub carried : Carried r
 
 -- the answer that a carried run gives
 unfoldable pub answerOf : Run → SumAnswer
-answerOf r = cond (ltb (r .worst) (10 ^ 9)) (summed (exact (worth r))) (Refused BadRow)
+answerOf r = cond (ltb (r .bad) (2 ^ 32)) (summed (exact (worth r))) (Refused BadRow)

@@ -3,15 +3,16 @@ use crate::SumAnswer;
 use duration::Duration;
 use refusal::Refusal;
 ghost use mathlib.Core.Path.{_≡_};
-ghost use Prim.Native.Nat.{_+_, _≤_, min, max};
+ghost use Prim.Native.Nat.{_+_, _≤_, min};
+ghost use lib.Bits.{bitOr};
 ghost use Rattle.sums.specs.Runs.{Short, Carried, Joined, answerOf};
 
-// Seconds in halves of 32 bits, nanoseconds, and the largest nanoseconds of a row.
+// Seconds in halves of 32 bits, and nanoseconds. `bad` has bit 32 exactly where a row has 10^9 nanoseconds or more.
 pub struct Run {
     pub high: u64,
     pub low: u64,
     pub nanos: u64,
-    pub worst: u32,
+    pub bad: u64,
 }
 
 // The sum of no rows.
@@ -19,17 +20,14 @@ pub const NONE: Run = Run {
     high: 0,
     low: 0,
     nanos: 0,
-    worst: 0,
+    bad: 0,
 };
 
 // The base of a half word.
 const HALF: u64 = 0x1_0000_0000;
 
-fn larger(a: u32, b: u32) -> u32
-    ensures { λ r. ⌜ r ≡ max a b ⌝ }
-{
-    if a < b { b } else { a }
-}
+// What 10^9 lacks to 2^32.
+const SHORT: u64 = 3_294_967_296;
 
 fn least(a: u64, b: u64) -> u64
     ensures { λ r. ⌜ r ≡ min a b ⌝ }
@@ -51,14 +49,14 @@ pub fn block_end(at: usize, rows: usize) -> usize
 // r and one row more, with no carry.
 pub fn add(r: Run, high: u32, low: u32, nanos: u32) -> Run
     requires { ⌜ Short r ⌝ }
-    ensures { λ s. ⌜ s ≡ record { high = r .high + high; low = r .low + low; nanos = r .nanos + nanos; worst = max (r .worst) nanos } ⌝ }
+    ensures { λ s. ⌜ s ≡ record { high = r .high + high; low = r .low + low; nanos = r .nanos + nanos; bad = bitOr (r .bad) (nanos + 3294967296) } ⌝ }
 {
-    let worst = larger(r.worst, nanos);
+    let n = nanos as u64;
     Run {
         high: r.high + high as u64,
         low: r.low + low as u64,
-        nanos: r.nanos + nanos as u64,
-        worst,
+        nanos: r.nanos + n,
+        bad: r.bad | (n + SHORT),
     }
 }
 
@@ -70,12 +68,11 @@ pub fn join(t: Run, b: Run) -> Run
     let nanos = t.nanos + b.nanos;
     let low = t.low + b.low + nanos / 1_000_000_000;
     let high = least(t.high + b.high + low / HALF, HALF);
-    let worst = larger(t.worst, b.worst);
     Run {
         high,
         low: low % HALF,
         nanos: nanos % 1_000_000_000,
-        worst,
+        bad: t.bad | b.bad,
     }
 }
 
@@ -84,7 +81,7 @@ pub fn answer(r: Run) -> SumAnswer
     requires { ⌜ Carried r ⌝ }
     ensures { λ a. ⌜ a ≡ answerOf r ⌝ }
 {
-    if 1_000_000_000 <= r.worst {
+    if HALF <= r.bad {
         return SumAnswer::Refused(Refusal::BadRow);
     }
     if HALF <= r.high {

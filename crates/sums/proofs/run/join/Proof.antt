@@ -6,8 +6,8 @@ use Rattle.sums.proofs.run.join.Statement.{statement}
 use Rattle.sums.proofs.run.join.Tie as tie
 
 returns : tie.Need-returns
-returns c = let s = c .before .before .before .before .before .before .before .before in
-    joined (s .args .t) (s .args .b) refl refl (c .before .least .ensures) (c .larger .ensures)
+returns c = let s = c .before .before .before .before .before .before .before .before .before in
+    joined (s .args .t) (s .args .b) refl refl (c .before .before .least .ensures) refl
 
 pub join-spec : {M : Type 1} → statement M
 join-spec =
@@ -18,6 +18,5 @@ join-spec =
     (λ c. search needs)
     (λ c. search needs)
     (λ c. search needs)
-    (λ c κs. search needs)
     (λ c κs. search needs)
     returns)
