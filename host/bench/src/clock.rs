@@ -15,7 +15,7 @@ pub struct Clock {
 
 impl Clock {
     pub fn new(only: String, source: &str) -> Clock {
-        println!("Rust: {source}; best of {ROUNDS} rounds over up to {INPUTS} inputs; only the ratio is a claim");
+        println!("Rust: {source}; best of {ROUNDS} rounds from 4 places over up to {INPUTS} inputs; only the ratio is a claim");
         println!(
             "{:<36} {:>9} {:>9} {:>6}",
             "row", "ours ns", "Rust's ns", "ratio"
@@ -60,20 +60,29 @@ impl Clock {
         let repeats = (SHORTEST_ROUND.as_nanos() / once.as_nanos() + 1) as u32;
         let mut best = [Duration::MAX; 2];
         for _ in 0..ROUNDS {
-            best[0] = best[0].min(round::<0, _, _>(&inputs, &mut out, repeats, &ours));
-            best[1] = best[1].min(round::<0, _, _>(&inputs, &mut out, repeats, &rust));
-            best[0] = best[0].min(round::<16, _, _>(&inputs, &mut out, repeats, &ours));
-            best[1] = best[1].min(round::<16, _, _>(&inputs, &mut out, repeats, &rust));
-            best[0] = best[0].min(round::<32, _, _>(&inputs, &mut out, repeats, &ours));
-            best[1] = best[1].min(round::<32, _, _>(&inputs, &mut out, repeats, &rust));
-            best[0] = best[0].min(round::<48, _, _>(&inputs, &mut out, repeats, &ours));
-            best[1] = best[1].min(round::<48, _, _>(&inputs, &mut out, repeats, &rust));
+            turn::<0, _, _>(&inputs, &mut out, repeats, &ours, &rust, &mut best);
+            turn::<16, _, _>(&inputs, &mut out, repeats, &ours, &rust, &mut best);
+            turn::<32, _, _>(&inputs, &mut out, repeats, &ours, &rust, &mut best);
+            turn::<48, _, _>(&inputs, &mut out, repeats, &ours, &rust, &mut best);
         }
         let calls = f64::from(repeats) * count as f64;
         let [a, b] = best.map(|time| time.as_secs_f64() * 1e9 / calls);
         println!("{name:<36} {a:>9.2} {b:>9.2} {:>6.2}", a / b);
         self.rows += 1;
     }
+}
+
+/// Both sides once, from a loop that lies SHIFT bytes further on: a third of a nanosecond hangs on where a loop lies.
+fn turn<const SHIFT: usize, I, B>(
+    inputs: &[I],
+    out: &mut B,
+    repeats: u32,
+    ours: impl Fn(&I, &mut B) -> u32,
+    rust: impl Fn(&I, &mut B) -> u32,
+    best: &mut [Duration; 2],
+) {
+    best[0] = best[0].min(round::<SHIFT, _, _>(inputs, out, repeats, ours));
+    best[1] = best[1].min(round::<SHIFT, _, _>(inputs, out, repeats, rust));
 }
 
 /// One function over all inputs, `repeats` times.
@@ -84,8 +93,8 @@ fn round<const SHIFT: usize, I, B>(
     repeats: u32,
     call: impl Fn(&I, &mut B) -> u32,
 ) -> Duration {
-    // SAFETY: these bytes are instructions that do nothing.
-    unsafe { std::arch::asm!(".skip {}, 0x90", const SHIFT) };
+    // SAFETY: these instructions do nothing.
+    unsafe { std::arch::asm!(".rept {}", "nop", ".endr", const SHIFT) };
     let start = Instant::now();
     for _ in 0..repeats {
         for input in inputs {
