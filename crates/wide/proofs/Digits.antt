@@ -3,7 +3,7 @@
 use mathlib.Core.Path.{_≡_, refl, sym, ap, _∙_}
 use mathlib.Core.Bool.{Bool, true, false, cond}
 use Prim.Native.Nat.{ℕ, suc, _+_, _*_, _^_, _-_, _≤_, _<_}
-use native.Mathlib.Nat.{mul-le-mul-right, lt-of-not-le, not-le-of-lt, le-of-lt}
+use native.Mathlib.Nat.{mul-le-mul-right, lt-of-mul-lt-mul-right, lt-of-not-le, not-le-of-lt, le-of-lt}
 use native.Mathlib.Omega.{arith}
 use lib.Arith.{lt-of-le-ne}
 use lib.Dec.{ltb, eqb}
@@ -41,6 +41,10 @@ module _ (B : ℕ) where
 
   short : (h l k m o w : ℕ) → h < k + o → w + m ≡ o * B + l → w < B → h * B + l < k * B + m
   short h l k m o w e d b = omega (arith, mul-le-mul-right B e)
+
+  -- a number of two digits has a high digit of one
+  pub high-fits : (a b n : ℕ) → a * B + b ≡ n → n < B * B → a < B
+  high-fits a b n e h = lt-of-mul-lt-mul-right B {m = a} {n = B} (omega arith)
 
   -- a product by one digit, and one of which both high digits are there
   pub spread : (h l k : ℕ) → h * k * B + l * k ≡ (h * B + l) * k

@@ -17,9 +17,13 @@ use Rattle.wide.specs.declared.DivAnswer.the-variants.{Divided, Refused 
 use Rattle.wide.specs.Wide.{wide, words, answer, difference, order, division}
 
 -- what is chosen by a test: where each way of the test shows C, C holds
-by-test : {A C : Type 0} (b : Bool) {x y z : A} → z ≡ cond b x y → (b ≡ true → z ≡ x → C) → (b ≡ false → z ≡ y → C) → C
+pub by-test : {A C : Type 0} (b : Bool) {x y z : A} → z ≡ cond b x y → (b ≡ true → z ≡ x → C) → (b ≡ false → z ≡ y → C) → C
 by-test true e f g = f refl e
 by-test false e f g = g refl e
+
+-- one of two numbers is below the other, or not
+pub lt-or-le : {C : Type 0} (a b : ℕ) → (a < b → C) → (b ≤ a → C) → C
+lt-or-le a b f g = by-test {A = ℕ} (ltb a b) {x = 0} {y = 0} refl (λ t e. f (ltb-true a b t)) (λ t e. g (ltb-false a b t))
 
 is-same : {v w : Wide} → Is v ≡ Is w → v ≡ w
 is-same e = cc
@@ -43,14 +47,19 @@ unfolding wide
 wide-lt x a b = digits-lt a b
 
 -- `answer` is a number of two words, or Overflow
-pub answer-is : (n : ℕ) {h l : ℕ} → l < 2 ^ 64 → h < 2 ^ 64 → h * 2 ^ 64 + l ≡ n → Is (record { hi = h; lo = l }) ≡ answer n
+pub answer-fits : (n : ℕ) → n < 2 ^ 128 → Is (words n) ≡ answer n
 unfolding answer
-answer-is n b a e = let t : n < 2 ^ 128 = rw (← e) (digits-lt a b) in rw (lt-ltb n (2 ^ 128) t) (ap Is (words-of n b e))
+answer-fits n t = rw (lt-ltb n (2 ^ 128) t) refl
+
+pub answer-over : (n : ℕ) → 2 ^ 128 ≤ n → Refused Overflow ≡ answer n
+unfolding answer
+answer-over n t = rw (le-ltb n (2 ^ 128) t) refl
+
+pub answer-is : (n : ℕ) {h l : ℕ} → l < 2 ^ 64 → h < 2 ^ 64 → h * 2 ^ 64 + l ≡ n → Is (record { hi = h; lo = l }) ≡ answer n
+answer-is n b a e = ap Is (words-of n b e) ∙ answer-fits n (rw (← e) (digits-lt a b))
 
 pub answer-overflow : (n : ℕ) {h : ℕ} (l : ℕ) → 2 ^ 64 ≤ h → h * 2 ^ 64 + l ≡ n → Refused Overflow ≡ answer n
-unfolding answer
-answer-overflow n {h} l b e =
-    let t : 2 ^ 128 ≤ n = rw (← e) (le-trans (mul-le-mul-right (2 ^ 64) b) (le-add-right (h * 2 ^ 64) l)) in rw (le-ltb n (2 ^ 128) t)
+answer-overflow n {h} l b e = answer-over n (rw (← e) (le-trans (mul-le-mul-right (2 ^ 64) b) (le-add-right (h * 2 ^ 64) l)))
 
 pub answer-told : (n : ℕ) {w : Wide} → Is w ≡ answer n → (wide w ≡ n) × (n < 2 ^ 128)
 unfolding answer

@@ -1,23 +1,22 @@
 -- Products by halves of 32 bits, and where a product has no answer. Assumes nothing.
 use mathlib.Core.Path.{_≡_, sym, ap, _∙_}
 use Prim.Native.Nat.{ℕ, _+_, _*_, _/_, _%_, _^_, _≤_, _<_, _-_}
-use native.Mathlib.Nat.{div-add-mod', mul-le-mul, mul-le-mul-right, mul-comm, le-trans, le-add-right, lt-of-mul-lt-mul-right}
+use native.Mathlib.Nat.{div-add-mod', mul-le-mul, lt-trans}
 use native.Mathlib.Omega.{arith}
-use lib.Pow.{high, low}
+use lib.Dec.{ltb, lit<}
+use lib.Pow.{high, low, le-ones}
+use mir.Val.{boolByte}
 use Rattle.refusal.specs.declared.Refusal.the-variants.{Overflow}
 use Rattle.wide.specs.declared.Wide.{Wide}
 use Rattle.wide.specs.declared.WideAnswer.the-variants.{Refused}
 use Rattle.wide.specs.Wide.{wide, words, answer}
 use Rattle.wide.proofs.Laws.{answer-overflow, wide-words}
-use Rattle.wide.proofs.Digits.{spread, crossed, one-word}
+use Rattle.wide.proofs.Digits.{crossed, high-fits}
+use Rattle.wide.proofs.Flags.{one-none}
 
 -- the product of two numbers below 2 ^ 32
-pub half-product : {x y : ℕ} → x < 2 ^ 32 → y < 2 ^ 32 → x * y ≤ (2 ^ 32 - 1) * (2 ^ 32 - 1)
+half-product : {x y : ℕ} → x < 2 ^ 32 → y < 2 ^ 32 → x * y ≤ (2 ^ 32 - 1) * (2 ^ 32 - 1)
 half-product h k = mul-le-mul {n₂ = 2 ^ 32 - 1} {m₂ = 2 ^ 32 - 1} (omega arith) (omega arith)
-
--- a product by the halves of its first factor
-pub by-half : (a b : ℕ) → a * b ≡ a / 2 ^ 32 * b * 2 ^ 32 + a % 2 ^ 32 * b
-by-half a b = ap (λ (z : ℕ). z * b) (sym (div-add-mod' a (2 ^ 32))) ∙ omega arith
 
 -- the four half products of a * b
 pub record Halves (a b : ℕ) : Type 0 where
@@ -54,62 +53,64 @@ module _ (a b : ℕ) {l m n : ℕ} (el : l ≡ a % 2 ^ 32 * (b % 2 ^ 32)) (em : 
   pub low-is : n % 2 ^ 32 * 2 ^ 32 + l % 2 ^ 32 ≡ a * b % 2 ^ 64
   low-is = sym (low (a / 2 ^ 32 * (b / 2 ^ 32) + m / 2 ^ 32 + n / 2 ^ 32) 64 low-fits) ∙ ap (λ (z : ℕ). z % 2 ^ 64) both-words
 
--- a product by k, where that of the high word passes a word, and where not
-pub scale-over : (x : Wide) (k : ℕ) → 2 ^ 64 ≤ x .hi * k → Refused Overflow ≡ answer (wide x * k)
-unfolding wide
-scale-over x k h = answer-overflow _ (x .lo * k) h (spread (2 ^ 64) (x .hi) (x .lo) k)
-
+-- a product that passes a word, and one that does not
 over-word : {n t : ℕ} → t ≡ n / 2 ^ 64 → 0 < t → 2 ^ 64 ≤ n
 over-word e h = omega arith
 
-in-word : {n t u : ℕ} → t ≡ n / 2 ^ 64 → t ≤ 0 → u ≡ n % 2 ^ 64 → u ≡ n
-in-word e h f = omega arith
+in-word : {n t u : ℕ} → t ≡ n / 2 ^ 64 → t ≤ 0 → u ≡ n % 2 ^ 64 → (u ≡ n) × (n < 2 ^ 64)
+in-word e h f = (omega arith, omega arith)
 
-pub scale-top : (x : Wide) (k : ℕ) {t : ℕ} → t ≡ x .hi * k / 2 ^ 64 → 0 < t → Refused Overflow ≡ answer (wide x * k)
-scale-top x k e h = scale-over x k (over-word e h)
-
-pub scale-is : (x : Wide) (k : ℕ) {t u : ℕ} (m : Wide) → t ≡ x .hi * k / 2 ^ 64 → t ≤ 0 → u ≡ x .hi * k % 2 ^ 64 → m ≡ words (x .lo * k) → wide (record { hi = u; lo = 0 }) + wide m ≡ wide x * k
+-- what is above the low words' product passes a word: where both high words are there, or a cross product passes one
+mul-top : (x y : Wide) → 2 ^ 64 ≤ x .hi * y .hi * 2 ^ 64 + (x .hi * y .lo + x .lo * y .hi) → Refused Overflow ≡ answer (wide x * wide y)
 unfolding wide
-scale-is x k m e h g f =
-    let a : _ ≡ x .hi * k = in-word e h g in
-    let b : wide m ≡ x .lo * k = ap wide f ∙ wide-words (x .lo * k) in
-    (λ i. a i * 2 ^ 64 + 0 + b i) ∙ omega arith
+mul-top x y h = answer-overflow _ (x .lo * y .lo) h (crossed (2 ^ 64) (x .hi) (x .lo) (y .hi) (y .lo))
 
--- a product by a number of one word
-pub mul-word : (x y : Wide) → x .hi ≡ 0 → wide y * x .lo ≡ wide x * wide y
-mul-word x y z = rw (one-word x (omega arith)) (mul-comm (wide y) (x .lo))
+pub mul-both : (x y : Wide) → 0 < x .hi → 0 < y .hi → Refused Overflow ≡ answer (wide x * wide y)
+mul-both x y a b = let p : 1 * 1 ≤ x .hi * y .hi = mul-le-mul a b in mul-top x y (omega arith)
 
--- and of two numbers of two words
-pub mul-over : (x y : Wide) → 0 < x .hi → 0 < y .hi → Refused Overflow ≡ answer (wide x * wide y)
+pub mul-cross : (x y : Wide) {t : ℕ} → t ≡ x .hi * y .lo / 2 ^ 64 → 0 < t → Refused Overflow ≡ answer (wide x * wide y)
+mul-cross x y e h = mul-top x y (omega (arith, over-word e h))
+
+-- Where one high word is 0 and neither cross product passes a word, n is their sum
+pub record Cross (x y : Wide) (n : ℕ) : Type 0 where
+  pub fits : n < 2 ^ 64
+  pub whole : (m : Wide) → m ≡ words (x .lo * y .lo) → wide (record { hi = n; lo = 0 }) + wide m ≡ wide x * wide y
+
+sum : (B h l k m u v w : ℕ) → h * k ≡ 0 → u ≡ h * m → v ≡ k * l → w ≡ l * m → (u + v) * B + 0 + w ≡ (h * B + l) * (k * B + m)
+sum B h l k m u v w e p q r = rw (p, q, r) (omega (arith, ap (λ (z : ℕ). z * B * B) e))
+
+pub cross : (x y : Wide) {s t u v : ℕ} → boolByte (ltb 0 (x .hi)) + boolByte (ltb 0 (y .hi)) ≤ 1 → s ≡ x .hi * y .lo / 2 ^ 64 → s ≤ 0 → t ≡ y .hi * x .lo / 2 ^ 64 → t ≤ 0
+    → u ≡ x .hi * y .lo % 2 ^ 64 → v ≡ y .hi * x .lo % 2 ^ 64 → Cross x y (u + v)
 unfolding wide
-mul-over x y a b =
-    let p : 1 * 1 ≤ x .hi * y .hi = mul-le-mul a b in
-    answer-overflow _ _ (le-trans (mul-le-mul-right (2 ^ 64) p) (le-add-right _ (x .hi * y .lo + x .lo * y .hi))) (crossed (2 ^ 64) (x .hi) (x .lo) (y .hi) (y .lo))
+cross x y few es ns et nt eu ev =
+    let p = in-word es ns eu in
+    let q = in-word et nt ev in
+    let z : x .hi * y .hi ≡ 0 = one-none (x .hi) (y .hi) few (λ z. rw z (omega arith)) (λ z. rw z (omega arith)) in
+    record {
+      fits = one-none (x .hi) (y .hi) few (λ z. omega (arith, p .0, q .0, q .1, ap (λ (i : ℕ). i * y .lo) z)) (λ z. omega (arith, p .0, p .1, q .0, ap (λ (i : ℕ). i * x .lo) z));
+      whole = λ m e. sum (2 ^ 64) (x .hi) (x .lo) (y .hi) (y .lo) _ _ (wide m) z (p .0) (q .0) (ap wide e ∙ wide-words (x .lo * y .lo));
+    }
 
--- The product of a digit q and a number of two words
-pub record Columns (q h l : ℕ) : Type 0 where
-  pub first : q * (l % 2 ^ 32) ≤ (2 ^ 32 - 1) * (2 ^ 32 - 1)
-  pub middle : q * (l / 2 ^ 32) ≤ (2 ^ 32 - 1) * (2 ^ 32 - 1)
-  pub last : q * h + (q * (l / 2 ^ 32) + q * (l % 2 ^ 32) / 2 ^ 32) / 2 ^ 32 < 2 ^ 64
+-- a product q * d of two words, by that of the low word of d
+times : (B q h l a b : ℕ) → a * B + b ≡ q * l → (q * h + a) * B + b ≡ q * (h * B + l)
+times B q h l a b e = omega arith
 
-low-word : (q l : ℕ) → (q * (l / 2 ^ 32) + q * (l % 2 ^ 32) / 2 ^ 32) / 2 ^ 32 * 2 ^ 64 + ((q * (l / 2 ^ 32) + q * (l % 2 ^ 32) / 2 ^ 32) % 2 ^ 32 * 2 ^ 32 + q * (l % 2 ^ 32) % 2 ^ 32) ≡ q * l
-low-word q l = omega (arith, ap (λ (z : ℕ). q * z) (div-add-mod' l (2 ^ 32)))
-
-high-word : (B q h l a b : ℕ) → a * B + b ≡ q * l → (q * h + a) * B + b ≡ q * (h * B + l)
-high-word B q h l a b e = omega arith
-
-high-lt : (B a b n : ℕ) → a * B + b ≡ n → n < B * B → a < B
-high-lt B a b n e h = lt-of-mul-lt-mul-right B {m = a} {n = B} (omega arith)
-
-pub digit-columns : (q : ℕ) (d : Wide) → q < 2 ^ 32 → d .lo < 2 ^ 64 → q * wide d < 2 ^ 128 → Columns q (d .hi) (d .lo)
+pub times-is : (q : ℕ) (d m : Wide) → m ≡ words (q * d .lo) → wide (record { hi = q * d .hi + m .hi; lo = m .lo }) ≡ q * wide d
 unfolding wide
-digit-columns q d h b t = record {
-  first = half-product h (omega arith);
-  middle = half-product h (omega arith);
-  last = high-lt (2 ^ 64) _ _ _ (high-word (2 ^ 64) q (d .hi) (d .lo) _ _ (low-word q (d .lo))) t;
-}
+times-is q d m e = let p : wide m ≡ q * d .lo = ap wide e ∙ wide-words (q * d .lo) in times (2 ^ 64) q (d .hi) (d .lo) (m .hi) (m .lo) p
 
-pub digit-is : (q : ℕ) (d : Wide)
-    → wide (record { hi = q * d .hi + (q * (d .lo / 2 ^ 32) + q * (d .lo % 2 ^ 32) / 2 ^ 32) / 2 ^ 32; lo = (q * (d .lo / 2 ^ 32) + q * (d .lo % 2 ^ 32) / 2 ^ 32) % 2 ^ 32 * 2 ^ 32 + q * (d .lo % 2 ^ 32) % 2 ^ 32 }) ≡ q * wide d
+pub times-fits : (q : ℕ) (d m : Wide) → q * wide d < 2 ^ 128 → m ≡ words (q * d .lo) → q * d .hi + m .hi < 2 ^ 64
 unfolding wide
-digit-is q d = high-word (2 ^ 64) q (d .hi) (d .lo) _ _ (low-word q (d .lo))
+times-fits q d m t e = high-fits (2 ^ 64) (q * d .hi + m .hi) (m .lo) _ (times-is q d m e) t
+
+-- a product by half a word, and half a word more
+scaled-lt : {a b c : ℕ} → a < 2 ^ 64 → b < 2 ^ 32 → c < 2 ^ 32 → a * b + c < 2 ^ 96
+scaled-lt f g h = omega (arith, mul-le-mul {n₂ = 2 ^ 64 - 1} {m₂ = 2 ^ 32 - 1} (le-ones 64 f) (le-ones 32 g))
+
+module _ (a b c : ℕ) (p : Wide) (o w : ℕ) (e : p ≡ words (a * b)) (s : o * 2 ^ 64 + w ≡ p .lo + c) where
+  pub scaled-is : (p .hi + o) * 2 ^ 64 + w ≡ a * b + c
+  unfolding wide
+  scaled-is = let q : wide p ≡ a * b = ap wide e ∙ wide-words (a * b) in omega arith
+
+  pub scaled-fits : a < 2 ^ 64 → b < 2 ^ 32 → c < 2 ^ 32 → p .hi + o < 2 ^ 64
+  scaled-fits f g h = high-fits (2 ^ 64) (p .hi + o) w (a * b + c) scaled-is (lt-trans (scaled-lt f g h) (lit< tt))

@@ -1,11 +1,10 @@
 -- Laws of the division of two-word numbers. Assumes nothing.
 use mathlib.Core.Path.{_≡_, sym, ap, _∙_}
-use Prim.Native.Nat.{ℕ, suc, _+_, _*_, _/_, _%_, _^_, _≤_, _<_, _-_}
-use native.Mathlib.Nat.{div-add-mod', mod-lt, mul-le-mul-right, div-lt-iff-lt-mul, lt-of-lt-of-le, lt-trans, mod-eq-of-lt}
+use Prim.Native.Nat.{ℕ, _+_, _*_, _/_, _%_, _^_, _≤_, _<_, _-_}
+use native.Mathlib.Nat.{div-add-mod', mod-lt, div-lt-iff-lt-mul, lt-of-lt-of-le, lt-trans, mod-eq-of-lt}
 use native.Mathlib.Omega.{arith}
-use lib.Arith.{digits-lt}
 use lib.Dec.{lit<}
-use lib.Pow.{pow-add, pow-pos}
+use lib.Pow.{pow-pos}
 use lib.Count.{leadingZeros, leading-top}
 use Rattle.wide.specs.declared.Wide.{Wide}
 use Rattle.wide.specs.declared.DivAnswer.the-variants.{Divided}
@@ -13,6 +12,7 @@ use Rattle.wide.specs.Wide.{wide, words, division}
 use Rattle.wide.proofs.Laws.{wide-words, wide-lt, division-is}
 use Rattle.wide.proofs.Digits.{one-word}
 use Rattle.wide.proofs.Estimate.{estimate, in-units}
+use Rattle.wide.proofs.Shifts.{top-bit}
 
 -- a quotient of a high part g and q, for an n of h and l: what g leaves of h is a
 pub carried-is : (h l d g a q r : ℕ) → g * d + a ≡ h → q * d + r ≡ a * 2 ^ 64 + l → wide (record { hi = g; lo = q }) * d + r ≡ wide (record { hi = h; lo = l })
@@ -54,13 +54,10 @@ few-left x d q t r e f n = omega (arith, n .high)
 
 -- the unit of a d of two words
 unit-wide : (d : Wide) (k : ℕ) → k ≡ 96 - leadingZeros 64 (d .hi) → 0 < d .hi → d .hi < 2 ^ 64 → d .lo < 2 ^ 64 → (2 ^ k * 2 ^ 31 ≤ wide d) × (wide d < 2 ^ k * 2 ^ 32)
-unfolding wide
 unit-wide d k e pos bh bl =
     let t = leading-top 64 (d .hi) pos bh in
-    let lo : 2 ^ (t .0 + 64) ≤ wide d = rw pow-add (omega (arith, mul-le-mul-right (2 ^ 64) (t .2))) in
-    let s : suc (t .0 + 64) ≡ suc (t .0) + 64 = omega arith in
-    let hi : wide d < 2 ^ suc (t .0 + 64) = rw (s, pow-add) (digits-lt (t .3) bl) in
-    in-units (wide d) (t .0 + 64) k (omega (arith, t .1)) lo hi
+    let u = top-bit d (t .0) (t .2) (t .3) bl in
+    in-units (wide d) (t .0 + 64) k (omega (arith, t .1)) (u .0) (u .1)
 
 -- the estimate that the program makes of the low words of two shifts
 pub near-words : (x d : Wide) (n m k : ℕ) → k ≡ 96 - leadingZeros 64 (d .hi) → 0 < d .hi → d .hi < 2 ^ 64 → d .lo < 2 ^ 64 → wide x < wide d * 2 ^ 32

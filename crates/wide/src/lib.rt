@@ -58,7 +58,7 @@ pub fn scaled(a: u64, b: u32, c: u32) -> Wide
     }
 }
 
-// x * y. Two numbers of two words each always have a product of more: one of the two cross products is then 0. The words are
+// x * y. Two numbers of two words each always have a product of more, and else one of the two cross products is 0. The words are
 // counted, since two tests one after the other would be a branch that is not to be foretold.
 pub fn mul(x: Wide, y: Wide) -> WideAnswer
     ensures { λ r. ⌜ r ≡ answer (wide x * wide y) ⌝ }

@@ -17,9 +17,9 @@ pub struct Step {
     pub r: Wide,
 }
 
-// q * d, for a q of half a word: column by column, with the carries.
+// q * d, where that has two words.
 fn times(q: u64, d: Wide) -> Wide
-    requires { ⌜ (q < 2 ^ 32) × (q * wide d < 2 ^ 128) ⌝ }
+    requires { ⌜ q * wide d < 2 ^ 128 ⌝ }
     ensures { λ r. ⌜ wide r ≡ q * wide d ⌝ }
 {
     let low = super::widening_mul(q, d.lo);

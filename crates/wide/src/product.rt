@@ -1,11 +1,7 @@
 // The words of a product, by halves of 32 bits. The two words have a function each: the compiler then sees in each one its own
 // instruction, which it does not in a function that makes both.
-use super::Wide;
-use super::WideAnswer;
-use refusal::Refusal;
 ghost use mathlib.Core.Path.{_≡_};
 ghost use Prim.Native.Nat.{_*_, _/_, _%_, _^_};
-ghost use Rattle.wide.specs.Wide.{wide, answer};
 
 // The base of a half word.
 const HALF: u64 = 0x1_0000_0000;
@@ -35,18 +31,4 @@ pub fn low(a: u64, b: u64) -> u64
     let middle = a1 * b0 + low / HALF;
     let next = a0 * b1 + middle % HALF;
     next % HALF * HALF + low % HALF
-}
-
-// x * k.
-pub fn scale(x: Wide, k: u64) -> WideAnswer
-    ensures { λ r. ⌜ r ≡ answer (wide x * k) ⌝ }
-{
-    if 0 < high(x.hi, k) {
-        return WideAnswer::Refused(Refusal::Overflow);
-    }
-    let top = Wide {
-        hi: low(x.hi, k),
-        lo: 0,
-    };
-    super::add(top, super::widening_mul(x.lo, k))
 }

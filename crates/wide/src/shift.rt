@@ -1,6 +1,7 @@
 // Shifts of words by any count. No branch depends on the count: which way a shift goes is not to be foretold.
 ghost use mathlib.Core.Path.{_≡_};
 ghost use mathlib.Core.Bool.{cond};
+ghost use lib.Count.{leadingZeros};
 ghost use Prim.Native.Nat.{_*_, _/_, _%_, _^_, _<_};
 ghost use Rattle.wide.specs.Wide.{wide};
 
@@ -29,7 +30,9 @@ pub fn low_down(h: u64, l: u64, n: u32) -> u64
 }
 
 // The zeros above h * 2^64 + l, of 128 bits.
-pub fn room(h: u64, l: u64) -> u64 {
+pub fn room(h: u64, l: u64) -> u64
+    ensures { λ r. ⌜ r ≡ leadingZeros 128 (wide (record { hi = h; lo = l })) ⌝ }
+{
     either(
         0 < h,
         u64::leading_zeros(h) as u64,

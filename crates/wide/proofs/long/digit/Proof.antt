@@ -22,7 +22,7 @@ add-q : tie.Need-add-q
 add-q c = omega (arith, at c .0)
 
 times-requires : tie.Need-times-requires
-times-requires c κs = (at c .1 .digit, lt-of-le-of-lt (at c .1 .low) (wide-lt _ (omega arith) (omega arith)))
+times-requires c κs = lt-of-le-of-lt (at c .1 .low) (wide-lt _ (omega arith) (omega arith))
 
 minus-requires : tie.Need-minus-requires
 minus-requires c κs = le-trans (le-of-eq (c .times .ensures)) (at (c .before) .1 .low)
