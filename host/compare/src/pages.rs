@@ -40,6 +40,7 @@ extern "C" {
 
 // The numbers of Linux, the same on x86-64 and Arm.
 const PROT_NONE: c_int = 0;
+const PROT_READ: c_int = 1;
 const PROT_READ_WRITE: c_int = 3;
 const MAP_PRIVATE_ANONYMOUS: c_int = 0x22;
 
@@ -72,14 +73,15 @@ impl Zone {
             "no memory for {} bytes: free some",
             3 * SIZE
         );
-        let middle = all.cast::<u8>().wrapping_add(SIZE);
-        // SAFETY: these bytes are the middle of the mapping.
-        let refused = unsafe { mprotect(middle.cast(), SIZE, PROT_READ_WRITE) };
-        assert!(
-            refused == 0,
-            "the system does not open pages of its own mapping"
-        );
-        Zone(middle)
+        let mut zone = Zone(all.cast::<u8>().wrapping_add(SIZE));
+        zone.protect(PROT_READ_WRITE);
+        zone
+    }
+
+    fn protect(&mut self, prot: c_int) {
+        // SAFETY: these bytes are the middle of the mapping, and nobody holds a borrow of them.
+        let refused = unsafe { mprotect(self.0.cast(), SIZE, prot) };
+        assert!(refused == 0, "the system refuses to protect pages");
     }
 
     /// The numbers at the start or the end, filled with these.
@@ -91,13 +93,15 @@ impl Zone {
         numbers
     }
 
-    /// A copy of the bytes at the start or the end.
+    /// A copy of the bytes at the start or the end, which cannot be written.
     pub fn copied(&mut self, place: Place, bytes: &[u8]) -> &[u8] {
+        self.protect(PROT_READ_WRITE);
         let at = self.0.wrapping_add(offset(place, bytes.len()));
         // SAFETY: they lie in the accessible part, and the borrow of the zone is exclusive.
-        let copy = unsafe { slice::from_raw_parts_mut(at, bytes.len()) };
-        copy.copy_from_slice(bytes);
-        copy
+        unsafe { slice::from_raw_parts_mut(at, bytes.len()) }.copy_from_slice(bytes);
+        self.protect(PROT_READ);
+        // SAFETY: as before, and only to be read.
+        unsafe { slice::from_raw_parts(at, bytes.len()) }
     }
 }
 

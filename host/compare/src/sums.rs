@@ -59,7 +59,7 @@ fn in_several_orders(trial: &mut Trial, mut list: List, watch: bool, thorough: b
     Ok(())
 }
 
-/// The buffer and both slices of rows touch the same edge of their pages.
+/// The buffer and both slices of rows touch the same edge of their pages; the rows cannot be written.
 fn on_pages(trial: &mut Trial) -> Outcome {
     let (mut secs, mut nanos) = (Zone::new(), Zone::new());
     let mut turn = 0;
