@@ -79,7 +79,10 @@ pub fn run(options: &Options) -> ExitCode {
         };
         let (cases, took) = (tally.cases, begun.elapsed().as_secs_f64());
         print!("part {number} of {last}: {name}, {cases} cases, 0 differences, {took:.1} s");
-        println!("; to go on: --scale --seed {seed} --from {}", number + 1);
+        match number + 1 {
+            next if next > last => println!("; the last part"),
+            next => println!("; to go on: --scale --seed {seed} --from {next}"),
+        }
         record(&mut rows, name, tally);
     }
     summary(&rows, started.elapsed())
