@@ -1,7 +1,8 @@
 //! Floats out and in. A float goes through a case as its bits, so that a difference shows them.
 
 use crate::shapes::{Pair, Shapes};
-use crate::trial::{Outcome, Trial};
+use crate::tally::Outcome;
+use crate::trial::Trial;
 use judge::edges::{cross, few_nanos, few_words};
 use judge::floats::{DOUBLE, SINGLE};
 use judge::{lent, salt, Answer, Rng};
@@ -39,7 +40,7 @@ pub fn out(
     judge: fn(Duration) -> Answer,
 ) -> Outcome {
     t.each(
-        cross(&t.shapes.words, &t.shapes.nanos),
+        |s| cross(&s.words, &s.nanos),
         Shapes::between,
         |(secs, nanos), out| call(secs, nanos, out),
         |(secs, nanos), _| judge(lent(secs, nanos)?),
@@ -49,7 +50,7 @@ pub fn out(
 pub fn double(t: &mut Trial) -> Outcome {
     t.each_of(
         CONVERSIONS,
-        DOUBLE.edges().into_iter().map(Bits).collect(),
+        |_| DOUBLE.edges().into_iter().map(Bits).collect(),
         |_, rng| Bits(DOUBLE.seconds(rng)),
         |bits, out| raw::try_from_secs_f64(bits.double(), out),
         |bits, _| salt::try_from_secs_f64(bits.double()),
@@ -59,7 +60,7 @@ pub fn double(t: &mut Trial) -> Outcome {
 pub fn single(t: &mut Trial) -> Outcome {
     t.each_of(
         CONVERSIONS,
-        SINGLE.edges().into_iter().map(Bits).collect(),
+        |_| SINGLE.edges().into_iter().map(Bits).collect(),
         |_, rng| Bits(SINGLE.seconds(rng)),
         |bits, out| raw::try_from_secs_f32(bits.single(), out),
         |bits, _| salt::try_from_secs_f32(bits.single()),
@@ -102,10 +103,12 @@ fn by(
     call: impl Fn(Pair, Bits, &mut [u8]) -> u32,
     judge: impl Fn(Duration, Bits, bool) -> Answer,
 ) -> Outcome {
-    let pairs = cross(&few_words(), &few_nanos());
-    let edges = cross(&pairs, few).into_iter();
     t.each(
-        edges.map(|(d, bits)| (d, Bits(bits))).collect(),
+        |_| {
+            let pairs = cross(&few_words(), &few_nanos());
+            let edges = cross(&pairs, few).into_iter();
+            edges.map(|(d, bits)| (d, Bits(bits))).collect()
+        },
         |shapes, rng| {
             let (d, bits) = random(shapes, rng);
             (d, Bits(bits))

@@ -1,21 +1,31 @@
 //! Feeds the library and the oracle the same inputs and compares the returned number and every byte.
 //!
 //! `compare [--quick] [--seed N] [--only NAME]`: `--quick` runs a tenth, `--only` the suites whose name holds NAME.
-//! `compare --all-f32`: every f32 into a duration and nothing else, a minute or more.
+//! `compare --scale ..`: all f32 patterns, 2 * 10^9 of f64 and 10^8 cases of each suite, on all processors; see scale.rs.
+//! `compare --pages INPUTS ..`: every length of buffer at either edge of a page, for so many inputs of each C function,
+//! with a checksum of all that came back; `--unjudged` shows the checksum alone.
 
+mod effort;
 mod floats;
 mod options;
+mod pages;
 mod patterns;
+mod scale;
 mod shapes;
 mod suites;
 mod sums;
+mod tally;
 mod texts;
 mod trial;
 mod wrapper;
 
-use options::Options;
+use effort::Effort;
+use judge::Rng;
+use options::{Mode, Options};
 use shapes::Shapes;
 use std::process::ExitCode;
+use suites::Suite;
+use tally::Outcome;
 use trial::Trial;
 
 fn main() -> ExitCode {
@@ -28,26 +38,26 @@ fn main() -> ExitCode {
     };
     judge::quiet();
     println!("judge: {}", oracle::SOURCE);
-    if options.all_f32 {
-        return all_f32();
-    }
     println!("seed: {}", options.seed);
+    match options.mode {
+        Mode::Scale => scale::run(&options),
+        Mode::Pages(inputs) => {
+            let judged = options.judged;
+            let effort = Effort::Pages { inputs, judged };
+            gate(&options, suites::c_functions(), effort)
+        }
+        Mode::Gate if options.quick => gate(&options, suites::all(), Effort::Quick),
+        Mode::Gate => gate(&options, suites::all(), Effort::Full),
+    }
+}
 
+/// One suite after the other, up to the first difference.
+fn gate(options: &Options, suites: Vec<Suite>, effort: Effort) -> ExitCode {
     let shapes = Shapes::new();
     let mut passed = 0;
-    for suite in suites::all() {
-        if !suite.name.contains(&options.only) {
-            continue;
-        }
-        let mut trial = Trial::new(suite.name, &options, &shapes);
-        let outcome = (suite.run)(&mut trial).and_then(|()| trial.covers(&suite));
-        let (cases, panics) = (trial.cases, trial.panics());
-        let count = usize::from(outcome.is_err());
-        println!(
-            "{:<24} {cases:>9} cases {panics:>7} panics met {count} differences",
-            suite.name
-        );
-        if let Err(difference) = outcome {
+    let wanted = |suite: &Suite| suite.name.contains(&options.only);
+    for suite in suites.into_iter().filter(wanted) {
+        if let Err(difference) = one(&suite, options.seed, effort, &shapes) {
             println!("{difference}");
             println!("seed: {}", options.seed);
             println!("{passed} suites passed, 1 failed");
@@ -66,15 +76,25 @@ fn main() -> ExitCode {
     ExitCode::SUCCESS
 }
 
-fn all_f32() -> ExitCode {
-    match patterns::run() {
-        Ok(count) => {
-            println!("{count} f32 patterns, 0 differences");
-            ExitCode::SUCCESS
-        }
-        Err(difference) => {
-            println!("{difference}");
-            ExitCode::FAILURE
-        }
+/// Runs a suite and prints its line.
+fn one(suite: &Suite, seed: u64, effort: Effort, shapes: &Shapes) -> Outcome {
+    let rng = Rng::named(seed, suite.name);
+    let mut trial = Trial::new(suite.name, rng, effort, shapes);
+    let outcome = (suite.run)(&mut trial);
+    let checksum = trial.checksum();
+    let tally = trial.tally();
+    let least = effort.least_panics(suite.panics);
+    let outcome = outcome.and_then(|()| tally.covers(suite, least));
+    let verdict = match outcome {
+        Err(_) => "1 differences",
+        Ok(()) if effort.is_judged() => "0 differences",
+        Ok(()) => "not judged",
+    };
+    let (name, cases, panics) = (suite.name, tally.cases, tally.panics);
+    print!("{name:<24} {cases:>9} cases {panics:>7} panics met {verdict}");
+    if effort.on_pages() {
+        print!(", checksum {checksum:016X}");
     }
+    println!();
+    outcome
 }

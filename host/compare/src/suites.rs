@@ -1,13 +1,15 @@
 //! The suites, one row a function: its name, the numbers its cases must meet, how many real panics at least, and its driver.
 
 use crate::shapes::Shapes;
-use crate::trial::{Outcome, Trial};
-use crate::{floats, sums, texts, wrapper};
+use crate::tally::Outcome;
+use crate::trial::Trial;
+use crate::{floats, patterns, sums, texts, wrapper};
 use judge::edges::cross;
 use judge::{salt, wide};
 use saltribbon::raw;
 use wide_door as door;
 
+#[derive(Copy, Clone)]
 pub struct Suite {
     pub name: &'static str,
     /// Every number that some case must expect, and no other.
@@ -32,6 +34,12 @@ const fn suite(
 }
 
 pub fn all() -> Vec<Suite> {
+    let mut suites = c_functions();
+    suites.push(suite("wrapper", &[], 0, wrapper::run));
+    suites
+}
+
+pub fn c_functions() -> Vec<Suite> {
     let mut suites = two_words();
     suites.extend(constructors_and_parts());
     suites.extend(arithmetic());
@@ -39,16 +47,19 @@ pub fn all() -> Vec<Suite> {
     suites.extend(floats_out());
     suites.extend(floats_in());
     suites.push(suite("salt_fmt", &[0, 8, 9, 10], 0, texts::run));
-    suites.push(suite("wrapper", &[], 0, wrapper::run));
     suites
 }
+
+/// Every f32 into a duration, in pieces. None is left out, so there is nothing that its cases must meet.
+pub const EVERY_F32: Suite = suite("every_f32", &[], 0, patterns::every_f32);
+/// Many an f64 into a duration, in pieces.
+pub const MANY_F64: Suite = suite("many_f64", &[0, 1, 2], 0, patterns::many_f64);
 
 fn two_words() -> Vec<Suite> {
     vec![
         suite("door_widening_mul", &[0], 0, |t| {
-            let edges = cross(&t.shapes.words, &t.shapes.words);
             t.door(
-                edges,
+                |s| cross(&s.words, &s.words),
                 |s, r| (s.word(r), s.word(r)),
                 |(a, b), out| door::widening_mul(a, b, out),
                 |(a, b)| wide::widening_mul(a, b),
@@ -80,11 +91,15 @@ fn two(
     call: fn(u64, u64, u64, u64, &mut [u64; 4]) -> u32,
     judge: fn(u128, u128) -> wide::Words,
 ) -> Outcome {
-    let edges = cross(&t.shapes.wides, &t.shapes.wides);
     let call = |(x, y): (u128, u128), out: &mut [u64; 4]| {
         call(x as u64, (x >> 64) as u64, y as u64, (y >> 64) as u64, out)
     };
-    t.door(edges, random, call, |(x, y)| judge(x, y))
+    t.door(
+        |s| cross(&s.wides, &s.wides),
+        random,
+        call,
+        |(x, y)| judge(x, y),
+    )
 }
 
 fn shift(
@@ -92,9 +107,13 @@ fn shift(
     call: fn(u64, u64, u32, &mut [u64; 4]) -> u32,
     judge: fn(u128, u32) -> wide::Words,
 ) -> Outcome {
-    let edges = cross(&t.shapes.wides, &t.shapes.shifts);
     let call = |(x, n): (u128, u32), out: &mut [u64; 4]| call(x as u64, (x >> 64) as u64, n, out);
-    t.door(edges, Shapes::shift, call, |(x, n)| judge(x, n))
+    t.door(
+        |s| cross(&s.wides, &s.shifts),
+        Shapes::shift,
+        call,
+        |(x, n)| judge(x, n),
+    )
 }
 
 fn constructors_and_parts() -> Vec<Suite> {

@@ -1,7 +1,9 @@
 //! The sum of a list: rows as bytes, a range of them, hostile rows outside it, and every list in several orders.
 
+use crate::pages::Zone;
 use crate::shapes::{of_nanos, Pair, Shapes};
-use crate::trial::{Difference, Outcome, Trial};
+use crate::tally::{Difference, Outcome};
+use crate::trial::Trial;
 use judge::edges::MAX_NANOS;
 use judge::{salt, Rng};
 use saltribbon::raw;
@@ -20,29 +22,59 @@ const THOROUGH: u64 = 64;
 const SHOWN: usize = 16;
 
 pub fn run(trial: &mut Trial) -> Outcome {
-    for turn in 0..trial.share(LISTS) {
-        let mut list = List::random(trial.shapes, &mut trial.rng, turn % LONG == LONG - 1);
-        let watch = turn % 4 == 0;
-        let want = list.want(watch);
-        if turn % THOROUGH == 0 {
-            for length in trial.lengths() {
-                trial.case(&list, want, length, |out| list.call(out))?;
-            }
-        }
-        for order in 0..=SHUFFLES {
-            let length = trial.length();
+    if trial.effort.on_pages() {
+        return on_pages(trial);
+    }
+    let mut turn = 0;
+    while trial.more(turn, LISTS) {
+        let list = List::random(trial.shapes, &mut trial.rng, turn % LONG == LONG - 1);
+        let (watch, thorough) = (turn % 4 == 0, turn % THOROUGH == 0);
+        in_several_orders(trial, list, watch, thorough)?;
+        turn += 1;
+    }
+    Ok(())
+}
+
+fn in_several_orders(trial: &mut Trial, mut list: List, watch: bool, thorough: bool) -> Outcome {
+    let want = list.want(watch);
+    if thorough {
+        for length in trial.lengths() {
             trial.case(&list, want, length, |out| list.call(out))?;
-            if order == SHUFFLES {
-                break;
-            }
-            list.shuffle(&mut trial.rng);
-            let again = list.want(watch);
-            if again != want {
-                return Err(Difference::new(format!(
-                    "the Rust's sum depends on the order: {want:?} before, {again:?} for {list:?}"
-                )));
+        }
+    }
+    for order in 0..=SHUFFLES {
+        let length = trial.length();
+        trial.case(&list, want, length, |out| list.call(out))?;
+        if order == SHUFFLES {
+            break;
+        }
+        list.shuffle(&mut trial.rng);
+        let again = list.want(watch);
+        if again != want {
+            return Err(Difference::new(format!(
+                "the Rust's sum depends on the order: {want:?} before, {again:?} for {list:?}"
+            )));
+        }
+    }
+    Ok(())
+}
+
+/// The buffer and both slices of rows touch the same edge of their pages; the rows cannot be written.
+fn on_pages(trial: &mut Trial) -> Outcome {
+    let (mut secs, mut nanos) = (Zone::new(), Zone::new());
+    let mut turn = 0;
+    while trial.more(turn, LISTS) {
+        let list = List::random(trial.shapes, &mut trial.rng, false);
+        let want = list.want(turn % 4 == 0);
+        for &place in trial.effort.places() {
+            let secs = secs.copied(place, list.secs.lent());
+            let nanos = nanos.copied(place, list.nanos.lent());
+            let call = |out: &mut [u8]| raw::sum(secs, nanos, list.first, list.end, out);
+            for length in trial.lengths() {
+                trial.case_at(place, &list, want, length, call)?;
             }
         }
+        turn += 1;
     }
     Ok(())
 }

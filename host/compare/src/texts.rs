@@ -1,7 +1,9 @@
 //! The printed form against the Rust's Debug: options and durations crossed, bad options in every combination, every kind of buffer.
 
+use crate::effort::Effort;
 use crate::shapes::Pair;
-use crate::trial::{parts, Difference, Outcome, Trial, GUARD};
+use crate::tally::Outcome;
+use crate::trial::{Trial, GUARD};
 use judge::text::{self, Options, LIMITS, LONGEST};
 use judge::{edges, Rng, NO_ROOM};
 use saltribbon::raw;
@@ -12,29 +14,35 @@ const SPAN: usize = GUARD + 7 + LENT + GUARD + 1;
 /// Durations for each set of options.
 const EACH: usize = 12;
 const RANDOM: u64 = 2_000_000;
-/// Rounds through all combinations of what can be bad.
+/// Rounds through all combinations of what can be bad, and how many these are.
 const SPOILED: u64 = 4_000;
+const COMBINATIONS: u64 = 1 << 6;
 
 /// Neither sign nor precision nor width nor alignment; the fill is a space.
 const PLAIN: Options = [0, -1, -1, 0, 0x20];
 
 pub fn run(t: &mut Trial) -> Outcome {
     let printed = edges::printed();
-    every_option(t, &printed)?;
-    every_digit(t, &printed)?;
-    for _ in 0..t.share(RANDOM) {
+    if t.effort.has_edges() {
+        every_option(t, &printed)?;
+        every_digit(t, &printed)?;
+    }
+    spoiled(t, &printed)?;
+    let mut turn = 0;
+    while t.more(turn, RANDOM) {
         let d = duration(t, &printed);
         let options = good(&mut t.rng);
         any_room(t, d, options)?;
+        turn += 1;
     }
-    spoiled(t, &printed)
+    Ok(())
 }
 
 /// Sign, precision, width and alignment in every combination, each with some durations and the next fill.
 fn every_option(t: &mut Trial, printed: &[Pair]) -> Outcome {
     let [signs, precisions, widths, aligns, fills] = LIMITS;
     let mut fills = fills.cycle();
-    let step = if t.quick { 10 } else { 1 };
+    let step = t.effort.step();
     for precision in precisions {
         for width in widths.clone().step_by(step) {
             for align in aligns.clone() {
@@ -53,7 +61,7 @@ fn every_option(t: &mut Trial, printed: &[Pair]) -> Outcome {
 
 /// Every duration with every precision that cuts a digit, alone and with some padding, in every kind of buffer.
 fn every_digit(t: &mut Trial, printed: &[Pair]) -> Outcome {
-    let step = if t.quick { 10 } else { 1 };
+    let step = t.effort.step();
     for &d in printed.iter().step_by(step) {
         for precision in -1..=10 {
             for plus in 0..=1 {
@@ -87,8 +95,12 @@ fn spoiled(t: &mut Trial, printed: &[Pair]) -> Outcome {
             }
         }
     }
-    for _ in 0..t.share(SPOILED) {
-        for set in 0..1 << 6 {
+    let rounds = match t.effort {
+        Effort::Pages { inputs, .. } => inputs / COMBINATIONS,
+        effort => effort.share(SPOILED),
+    };
+    for _ in 0..rounds {
+        for set in 0..COMBINATIONS {
             let (secs, mut nanos) = duration(t, printed);
             let mut options = good(&mut t.rng);
             for (at, limits) in LIMITS.into_iter().enumerate() {
@@ -169,6 +181,12 @@ fn every_room(t: &mut Trial, d: Pair, options: Options) -> Outcome {
 fn any_room(t: &mut Trial, d: Pair, options: Options) -> Outcome {
     let want = text::fmt(d.0, d.1, options);
     let length = want.as_ref().map_or(0, String::len);
+    if t.effort.on_pages() {
+        for room in t.lengths().into_iter().chain(rooms(length)) {
+            case(t, d, options, &want, room)?;
+        }
+        return Ok(());
+    }
     let room = match t.rng.below(8) {
         0 => t.rng.below(LENT as u64 + 1) as usize,
         kind => rooms(length)[(kind % 5) as usize],
@@ -176,7 +194,7 @@ fn any_room(t: &mut Trial, d: Pair, options: Options) -> Outcome {
     case(t, d, options, &want, room)
 }
 
-/// One call with `room` lent bytes between guards: the number and every byte must be as expected.
+/// A call with `room` lent bytes at each place of the trial: the number and every byte must be as expected.
 fn case(
     t: &mut Trial,
     d: Pair,
@@ -184,27 +202,16 @@ fn case(
     want: &Result<String, u32>,
     room: usize,
 ) -> Outcome {
-    let front = t.front();
-    let mut expected: [u8; SPAN] = t.filled();
-    let mut found = expected;
-    let number = match want {
-        Err(refusal) => -i64::from(*refusal),
-        Ok(text) if text.len() > room => -i64::from(NO_ROOM),
-        Ok(text) => {
-            expected[front..front + text.len()].copy_from_slice(text.as_bytes());
-            text.len() as i64
-        }
+    let (number, written) = match want {
+        Err(refusal) => (-i64::from(*refusal), ""),
+        Ok(text) if text.len() > room => (-i64::from(NO_ROOM), ""),
+        Ok(text) => (text.len() as i64, text.as_str()),
     };
-    let returned = raw::fmt(d.0, d.1, options, &mut found[front..front + room]);
-    t.met(number.min(0).unsigned_abs() as u32);
-    if returned == number && found == expected {
-        return Ok(());
+    let expected = (number, written.as_bytes());
+    for &place in t.effort.places() {
+        t.tally.met(number.min(0).unsigned_abs() as u32);
+        let call = |out: &mut [u8]| raw::fmt(d.0, d.1, options, out);
+        t.lend::<SPAN, i64>(place, (d, options, want), expected, room, call)?;
     }
-    let show = |bytes: [u8; SPAN]| parts(&bytes, front, room);
-    Err(Difference::new(format!(
-        "{} {d:?}, options {options:?} with {room} bytes lent (guard | lent | guard)\nexpected {number:>3}: {want:?} {}\nfound    {returned:>3}: {}",
-        t.name,
-        show(expected),
-        show(found)
-    )))
+    Ok(())
 }

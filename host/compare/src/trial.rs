@@ -1,13 +1,15 @@
 //! One suite at work: the drivers that make the cases, and the comparison of a single case.
 
-use crate::options::Options;
+use crate::effort::Effort;
+use crate::pages::{Place, Zone};
 use crate::shapes::{Pair, Shapes};
-use crate::suites::Suite;
+use crate::tally::{Difference, Outcome, Tally};
 use judge::edges::{cross, few_nanos, few_words};
 use judge::wide::Words;
 use judge::{lent, panics_met, Answer, Rng, NO_ROOM};
 use oracle::Duration;
-use std::fmt::{self, Debug, Display};
+use std::fmt::{Debug, Display};
+use std::hash::{DefaultHasher, Hash, Hasher};
 
 /// Longest buffer that is lent.
 const LONGEST: usize = 40;
@@ -21,94 +23,63 @@ const WORDS: usize = 4;
 const WATCH: u64 = 16;
 /// Random cases of a function, where it does not ask for more.
 const RANDOM: u64 = 2_000_000;
-
-/// The first case that differs, in words.
-pub struct Difference(String);
-
-impl Difference {
-    pub fn new(line: String) -> Difference {
-        Difference(line)
-    }
-}
-
-impl Display for Difference {
-    fn fmt(&self, f: &mut fmt::Formatter<'_>) -> fmt::Result {
-        f.write_str(&self.0)
-    }
-}
-
-pub type Outcome = Result<(), Difference>;
+/// The same of two-word arithmetic.
+const DOOR: u64 = 3_000_000;
 
 pub struct Trial<'a> {
     pub name: &'static str,
     pub rng: Rng,
     pub shapes: &'a Shapes,
-    pub cases: u64,
-    pub quick: bool,
+    pub effort: Effort,
+    pub tally: Tally,
     panics_before: u64,
-    /// Bit n is set once the number n was expected.
-    numbers: u32,
     /// Random bytes that buffers are filled from.
     pool: Vec<u8>,
+    /// Where buffers lie that are to end or begin with a page.
+    zone: Option<Zone>,
+    /// All that came back on pages.
+    seen: DefaultHasher,
 }
 
 impl<'a> Trial<'a> {
-    pub fn new(name: &'static str, options: &Options, shapes: &'a Shapes) -> Trial<'a> {
-        let mut rng = Rng::named(options.seed, name);
+    pub fn new(name: &'static str, mut rng: Rng, effort: Effort, shapes: &'a Shapes) -> Trial<'a> {
         let pool = (0..1_024).flat_map(|_| rng.word().to_le_bytes()).collect();
         Trial {
             name,
             rng,
             shapes,
-            cases: 0,
+            effort,
+            tally: Tally::default(),
             panics_before: panics_met(),
-            quick: options.quick,
-            numbers: 0,
             pool,
+            zone: effort.on_pages().then(Zone::new),
+            seen: DefaultHasher::new(),
         }
     }
 
-    /// A tenth in a quick run.
-    pub fn share(&self, whole: u64) -> u64 {
-        if self.quick {
-            whole / 10
-        } else {
-            whole
-        }
+    /// A checksum of all that came back on pages.
+    pub fn checksum(&self) -> u64 {
+        self.seen.finish()
     }
 
-    /// Panics of the Rust that were met for real and stand behind a refusal.
-    pub fn panics(&self) -> u64 {
-        panics_met() - self.panics_before
+    /// What was met, with the panics of the Rust that were met for real and stand behind a refusal.
+    pub fn tally(mut self) -> Tally {
+        self.tally.panics = panics_met() - self.panics_before;
+        self.tally
     }
 
-    /// Whether the cases met all they should: each returned number that the suite names and no other, and enough panics.
-    pub fn covers(&self, suite: &Suite) -> Outcome {
-        let named = suite
-            .numbers
-            .iter()
-            .fold(0, |set, number| set | 1 << number);
-        if self.numbers != named {
-            let list: Vec<u32> = (0..32).filter(|n| self.numbers >> n & 1 == 1).collect();
-            return Err(Difference(format!(
-                "the cases of {} met the numbers {list:?} and should meet {:?}",
-                self.name, suite.numbers
-            )));
+    /// Whether another random input is to follow so many, where the gate has `whole` of them.
+    pub fn more(&self, turn: u64, whole: u64) -> bool {
+        match self.effort {
+            Effort::Piece { cases, .. } => self.tally.cases < cases,
+            Effort::Pages { inputs, .. } => turn < inputs,
+            Effort::Quick | Effort::Full => turn < self.effort.share(whole),
         }
-        let least = self.share(suite.panics);
-        if self.panics() < least {
-            return Err(Difference(format!(
-                "the cases of {} met {} panics and should meet {least}",
-                self.name,
-                self.panics()
-            )));
-        }
-        Ok(())
     }
 
     /// The lengths that are lent at every edge.
     pub fn lengths(&self) -> Vec<usize> {
-        if self.quick {
+        if self.effort == Effort::Quick {
             vec![0, 15, 16, LONGEST]
         } else {
             (0..=LONGEST).collect()
@@ -125,61 +96,101 @@ impl<'a> Trial<'a> {
     }
 
     /// Random bytes, for a buffer with its guards.
-    pub fn filled<const N: usize>(&mut self) -> [u8; N] {
+    fn filled<const N: usize>(&mut self) -> [u8; N] {
         let from = self.rng.below((self.pool.len() - N) as u64) as usize;
         let mut bytes = [0; N];
         bytes.copy_from_slice(&self.pool[from..from + N]);
         bytes
     }
 
-    /// Where the lent part begins: at any of eight places behind the guard.
-    pub fn front(&mut self) -> usize {
-        GUARD + self.rng.below(8) as usize
+    /// Where the lent part begins: at any of eight places behind the guard, or so that it touches the page's edge.
+    fn front(&mut self, place: Place, all: usize, length: usize) -> usize {
+        match place {
+            Place::Amid => GUARD + self.rng.below(8) as usize,
+            Place::First => 0,
+            Place::Last => all - length,
+        }
     }
 
-    /// One case more, whose expected number is this.
-    pub fn met(&mut self, number: u32) {
-        self.cases += 1;
-        self.numbers |= 1 << number;
+    /// One call with `length` lent bytes among N: what comes back and every byte must be as expected.
+    pub fn lend<const N: usize, R: PartialEq + Display + Hash>(
+        &mut self,
+        place: Place,
+        input: impl Debug,
+        (number, written): (R, &[u8]),
+        length: usize,
+        call: impl Fn(&mut [u8]) -> R,
+    ) -> Outcome {
+        let front = self.front(place, N, length);
+        let mut expected: [u8; N] = self.filled();
+        let mut amid = expected;
+        let found = match &mut self.zone {
+            Some(zone) => zone.filled(place, expected),
+            None => &mut amid,
+        };
+        expected[front..front + written.len()].copy_from_slice(written);
+        let returned = call(&mut found[front..front + length]);
+        if self.effort.on_pages() {
+            (&returned, &*found).hash(&mut self.seen);
+        }
+        if returned == number && *found == expected || !self.effort.is_judged() {
+            return Ok(());
+        }
+        let (expected, found) = (parts(&expected, front, length), parts(found, front, length));
+        Err(Difference::new(format!(
+            "{} {input:?} with {length} bytes lent, {place} (before | lent | after)\nexpected {number:>3}: {expected}\nfound    {returned:>3}: {found}",
+            self.name
+        )))
     }
 
-    /// One call with `length` lent bytes between guards: the number and every byte must be as expected.
+    /// One case: a call with `length` lent bytes, at each place of this trial.
     pub fn case<I: Debug>(
         &mut self,
         input: I,
         want: Answer,
         length: usize,
-        call: impl FnOnce(&mut [u8]) -> u32,
+        call: impl Fn(&mut [u8]) -> u32,
     ) -> Outcome {
-        let front = self.front();
-        let mut expected: [u8; SPAN] = self.filled();
-        let mut found = expected;
-        let number = match want {
-            Err(refusal) => refusal,
-            Ok(_) if length < 16 => NO_ROOM,
-            Ok(value) => {
-                expected[front..front + 16].copy_from_slice(&value.to_le_bytes());
-                0
-            }
-        };
-        let returned = call(&mut found[front..front + length]);
-        self.met(number);
-        if returned == number && found == expected {
-            return Ok(());
+        for &place in self.effort.places() {
+            self.case_at(place, &input, want, length, &call)?;
         }
-        let show = |bytes: [u8; SPAN]| parts(&bytes, front, length);
-        Err(Difference(format!(
-            "{} {input:?} with {length} bytes lent (guard | lent | guard)\nexpected {number:>2}: {}\nfound    {returned:>2}: {}",
-            self.name,
-            show(expected),
-            show(found)
-        )))
+        Ok(())
+    }
+
+    pub fn case_at<I: Debug>(
+        &mut self,
+        place: Place,
+        input: I,
+        want: Answer,
+        length: usize,
+        call: impl Fn(&mut [u8]) -> u32,
+    ) -> Outcome {
+        let bytes = want.unwrap_or(0).to_le_bytes();
+        let (number, written) = match want {
+            Err(refusal) => (refusal, 0),
+            Ok(_) if length < 16 => (NO_ROOM, 0),
+            Ok(_) => (0, 16),
+        };
+        self.tally.met(number);
+        self.lend::<SPAN, u32>(place, input, (number, &bytes[..written]), length, call)
+    }
+
+    fn every_length<I: Copy + Debug>(
+        &mut self,
+        input: I,
+        want: Answer,
+        call: impl Fn(I, &mut [u8]) -> u32,
+    ) -> Outcome {
+        for length in self.lengths() {
+            self.case(input, want, length, |out| call(input, out))?;
+        }
+        Ok(())
     }
 
     /// The heart of every driver: each edge with each length of buffer, then random inputs with random ones.
     pub fn each<I: Copy + Debug>(
         &mut self,
-        edges: Vec<I>,
+        edges: impl FnOnce(&Shapes) -> Vec<I>,
         random: impl Fn(&Shapes, &mut Rng) -> I,
         call: impl Fn(I, &mut [u8]) -> u32,
         judge: impl Fn(I, bool) -> Answer,
@@ -191,31 +202,47 @@ impl<'a> Trial<'a> {
     pub fn each_of<I: Copy + Debug>(
         &mut self,
         count: u64,
-        edges: Vec<I>,
+        edges: impl FnOnce(&Shapes) -> Vec<I>,
         random: impl Fn(&Shapes, &mut Rng) -> I,
         call: impl Fn(I, &mut [u8]) -> u32,
         judge: impl Fn(I, bool) -> Answer,
     ) -> Outcome {
-        let lengths = self.lengths();
-        for input in edges {
-            let want = judge(input, true);
-            for &length in &lengths {
-                self.case(input, want, length, |out| call(input, out))?;
-            }
+        for input in self.edges(edges) {
+            self.every_length(input, judge(input, true), &call)?;
         }
-        for turn in 0..self.share(count) {
+        let mut turn = 0;
+        while self.more(turn, count) {
             let input = random(self.shapes, &mut self.rng);
             let want = judge(input, turn % WATCH == 0);
-            let length = self.length();
-            self.case(input, want, length, |out| call(input, out))?;
+            if self.effort.on_pages() {
+                self.every_length(input, want, &call)?;
+            } else {
+                let length = self.length();
+                self.case(input, want, length, |out| call(input, out))?;
+            }
+            turn += 1;
         }
         Ok(())
+    }
+
+    /// The edges where they are run: making them takes time.
+    fn edges<I>(&self, make: impl FnOnce(&Shapes) -> Vec<I>) -> Vec<I> {
+        if self.effort.has_edges() {
+            make(self.shapes)
+        } else {
+            Vec::new()
+        }
     }
 
     /// A constant: nothing goes in.
     pub fn constant(&mut self, call: fn(&mut [u8]) -> u32, value: Duration) -> Outcome {
         let image = judge::Image::image(value);
-        self.each(vec![()], |_, _| (), |(), out| call(out), |(), _| Ok(image))
+        self.each(
+            |_| vec![()],
+            |_, _| (),
+            |(), out| call(out),
+            |(), _| Ok(image),
+        )
     }
 
     /// Any pair of seconds and nanoseconds, for a function that carries.
@@ -225,7 +252,7 @@ impl<'a> Trial<'a> {
         judge: fn(u64, u32, bool) -> Answer,
     ) -> Outcome {
         self.each(
-            cross(&self.shapes.words, &self.shapes.nanos),
+            |s| cross(&s.words, &s.nanos),
             Shapes::carry,
             |(secs, nanos), out| call(secs, nanos, out),
             |(secs, nanos), watch| judge(secs, nanos, watch),
@@ -239,7 +266,7 @@ impl<'a> Trial<'a> {
         judge: fn(u64, u32, bool) -> Answer,
     ) -> Outcome {
         self.each(
-            cross(&self.shapes.words, &self.shapes.units),
+            |s| cross(&s.words, &s.units),
             Shapes::count,
             |(count, unit), out| call(count, unit, out),
             |(count, unit), watch| judge(count, unit, watch),
@@ -253,7 +280,7 @@ impl<'a> Trial<'a> {
         judge: fn(u128, bool) -> Answer,
     ) -> Outcome {
         self.each(
-            self.shapes.wides.clone(),
+            |s| s.wides.clone(),
             Shapes::wide_nanos,
             |nanos, out| call(nanos as u64, (nanos >> 64) as u64, out),
             judge,
@@ -267,7 +294,7 @@ impl<'a> Trial<'a> {
         judge: fn(Duration) -> Answer,
     ) -> Outcome {
         self.each(
-            cross(&self.shapes.words, &self.shapes.nanos),
+            |s| cross(&s.words, &s.nanos),
             Shapes::pair,
             |(secs, nanos), out| call(secs, nanos, out),
             |(secs, nanos), _| judge(lent(secs, nanos)?),
@@ -281,9 +308,8 @@ impl<'a> Trial<'a> {
         call: fn(u64, u32, u64, u32, &mut [u8]) -> u32,
         judge: impl Fn(Duration, Duration, bool) -> Answer,
     ) -> Outcome {
-        let few = cross(&few_words(), &few_nanos());
         self.each(
-            cross(&few, &few),
+            |_| cross(&few_pairs(), &few_pairs()),
             random,
             |(a, b), out| call(a.0, a.1, b.0, b.1, out),
             |(a, b), watch| judge(lent(a.0, a.1)?, lent(b.0, b.1)?, watch),
@@ -296,9 +322,8 @@ impl<'a> Trial<'a> {
         call: fn(u64, u32, u32, &mut [u8]) -> u32,
         judge: fn(Duration, u32) -> Answer,
     ) -> Outcome {
-        let few = cross(&few_words(), &few_nanos());
         self.each(
-            cross(&few, &self.shapes.factors),
+            |s| cross(&few_pairs(), &s.factors),
             Shapes::scaled,
             |(d, by), out| call(d.0, d.1, by, out),
             |(d, by), _| judge(lent(d.0, d.1)?, by),
@@ -308,18 +333,20 @@ impl<'a> Trial<'a> {
     /// Two-word arithmetic: four words between guard words.
     pub fn door<I: Copy + Debug>(
         &mut self,
-        edges: Vec<I>,
+        edges: impl FnOnce(&Shapes) -> Vec<I>,
         random: impl Fn(&Shapes, &mut Rng) -> I,
         call: impl Fn(I, &mut [u64; 4]) -> u32,
         judge: impl Fn(I) -> Words,
     ) -> Outcome {
-        let step = if self.quick { 10 } else { 1 };
-        for input in edges.into_iter().step_by(step) {
+        let step = self.effort.step();
+        for input in self.edges(edges).into_iter().step_by(step) {
             self.door_case(input, judge(input), &call)?;
         }
-        for _ in 0..self.share(3_000_000) {
+        let mut turn = 0;
+        while self.more(turn, DOOR) {
             let input = random(self.shapes, &mut self.rng);
             self.door_case(input, judge(input), &call)?;
+            turn += 1;
         }
         Ok(())
     }
@@ -330,34 +357,61 @@ impl<'a> Trial<'a> {
         want: Words,
         call: impl Fn(I, &mut [u64; 4]) -> u32,
     ) -> Outcome {
+        for &place in self.effort.places() {
+            self.door_case_at(place, input, want, &call)?;
+        }
+        Ok(())
+    }
+
+    fn door_case_at<I: Copy + Debug>(
+        &mut self,
+        place: Place,
+        input: I,
+        want: Words,
+        call: impl Fn(I, &mut [u64; 4]) -> u32,
+    ) -> Outcome {
         let fill = self.rng.word();
         let mut expected = [0; WORDS + 4 + WORDS];
         for (at, word) in expected.iter_mut().enumerate() {
             *word = fill.rotate_left(5 * at as u32);
         }
-        let mut found = expected;
-        let number = match want {
-            Err(refusal) => refusal,
-            Ok(words) => {
-                expected[WORDS..WORDS + 4].copy_from_slice(&words);
-                0
-            }
+        let mut amid = expected;
+        let found = match &mut self.zone {
+            Some(zone) => zone.filled(place, expected),
+            None => &mut amid,
         };
-        let out = found[WORDS..WORDS + 4].as_mut_array().expect("four words");
-        let returned = call(input, out);
-        self.met(number);
-        if returned == number && found == expected {
+        let lent = match place {
+            Place::Amid => WORDS..WORDS + 4,
+            Place::First => 0..4,
+            Place::Last => WORDS + WORDS..WORDS + WORDS + 4,
+        };
+        let number = want.err().unwrap_or(0);
+        if let Ok(words) = want {
+            expected[lent.clone()].copy_from_slice(&words);
+        }
+        let returned = call(input, found[lent].as_mut_array().expect("four words"));
+        self.tally.met(number);
+        if self.effort.on_pages() {
+            (returned, &*found).hash(&mut self.seen);
+        }
+        if returned == number && *found == expected || !self.effort.is_judged() {
             return Ok(());
         }
-        Err(Difference(format!(
-            "{} {input:?} with four words lent between guards of {WORDS}\nexpected {number:>2}: {expected:016X?}\nfound    {returned:>2}: {found:016X?}",
-            self.name
+        Err(Difference::new(format!(
+            "{} {input:?} with four words lent of {}, {place}\nexpected {number:>2}: {expected:016X?}\nfound    {returned:>2}: {found:016X?}",
+            self.name,
+            expected.len()
         )))
     }
 }
 
+/// A short list of durations, good and bad.
+fn few_pairs() -> Vec<Pair> {
+    cross(&few_words(), &few_nanos())
+}
+
 /// The bytes of a case: those before the lent ones, the lent ones, those after.
-pub fn parts(bytes: &[u8], front: usize, length: usize) -> String {
+fn parts(bytes: &[u8], front: usize, length: usize) -> String {
     let (before, rest) = bytes.split_at(front);
     let (lent, after) = rest.split_at(length);
     format!("{} | {} | {}", hex(before), hex(lent), hex(after))

@@ -1,9 +1,13 @@
 //! The safe wrapper against the raw functions: the same value or the same refusal, and each refusal's name and number.
 
-use crate::trial::{Difference, Outcome, Trial};
+use crate::tally::{Difference, Outcome};
+use crate::trial::Trial;
 use judge::{Answer, Image};
 use saltribbon::{raw, Align, Duration, Options, Refusal};
 use std::fmt::Debug;
+
+/// Random turns through all methods.
+const TURNS: u64 = 50_000;
 
 /// The table of refusals, written out once more.
 const NAMES: [(u32, &str); 11] = [
@@ -40,7 +44,8 @@ fn asked(call: impl Fn(&mut [u8]) -> u32) -> Answer {
 pub fn run(trial: &mut Trial) -> Outcome {
     names(trial)?;
     constants(trial)?;
-    for _ in 0..trial.share(50_000) {
+    let mut turn = 0;
+    while trial.more(turn, TURNS) {
         let ((secs, nanos), (secs2, nanos2)) = trial.shapes.two_pairs(&mut trial.rng);
         made(trial, secs, nanos)?;
         parts(trial, Duration { secs, nanos })?;
@@ -59,6 +64,7 @@ pub fn run(trial: &mut Trial) -> Outcome {
         floats_out(trial, a, b)?;
         floats_in(trial, a)?;
         text(trial, a)?;
+        turn += 1;
     }
     Ok(())
 }
@@ -70,7 +76,7 @@ fn same<T: Debug + PartialEq>(
     wrapper: Result<T, u32>,
     raw: Result<T, u32>,
 ) -> Outcome {
-    trial.cases += 1;
+    trial.tally.cases += 1;
     if wrapper == raw {
         return Ok(());
     }
@@ -81,7 +87,7 @@ fn same<T: Debug + PartialEq>(
 
 fn names(trial: &mut Trial) -> Outcome {
     for number in 0..64 {
-        trial.cases += 1;
+        trial.tally.cases += 1;
         let found = Refusal::from_number(number).map(|r| (r.number(), r.to_string()));
         let row = NAMES.iter().find(|(n, _)| *n == number);
         let expected = row.map(|(n, name)| (*n, name.to_string()));
