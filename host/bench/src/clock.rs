@@ -4,7 +4,8 @@ use judge::Rng;
 use std::hint::black_box;
 use std::time::{Duration, Instant};
 
-const INPUTS: usize = 2_048;
+/// So many that the processor does not learn by heart which way each of them goes.
+const INPUTS: usize = 32_768;
 const ROUNDS: usize = 7;
 const SHORTEST_ROUND: Duration = Duration::from_millis(2);
 
