@@ -1,5 +1,7 @@
 // The floats nearest to whole numbers, in one rounding each: an f32 by way of an f64 would be rounded twice.
 ghost use mathlib.Core.Path.{_≡_};
+ghost use mathlib.Core.Bool.{cond};
+ghost use lib.Dec.{ltb};
 ghost use Prim.Native.Nat.{_*_, _<_, _≤_, _^_};
 ghost use lib.Ieee.{binary32, binary64};
 ghost use Rattle.seconds.specs.Out.{whole};
@@ -50,13 +52,34 @@ pub fn u32_to_f32(n: u32) -> f32
     halves_f32(n as u64, 0)
 }
 
-// From 2^46 on the last 18 bits count only as zero or not, which the bit above them takes over.
+// From here on the last 18 bits count only as zero or not.
+const LONG: u64 = 0x4000_0000_0000;
+
+// Where the last digit stands that counts.
+fn place(n: u64) -> u64
+    ensures { λ r. ⌜ r ≡ cond (ltb n (2 ^ 46)) 0 18 ⌝ }
+{
+    if n < LONG {
+        return 0;
+    }
+    18
+}
+
+// The digits of n that count: of a long n the bit above the last 18 takes over what these say. Both are worked out and one is
+// taken, since a branch on the length of n is not to be foretold.
+fn digits(n: u64) -> u64
+    ensures { λ r. ⌜ (r < 2 ^ 46) × (whole binary32 (r * 2 ^ cond (ltb n (2 ^ 46)) 0 18) ≡ whole binary32 n) ⌝ }
+{
+    let more = (n % 0x4_0000 + 0x3_ffff) / 0x4_0000;
+    let cut = n / 0x4_0000 | more;
+    if n < LONG {
+        return n;
+    }
+    cut
+}
+
 pub fn u64_to_f32(n: u64) -> f32
     ensures { λ r. ⌜ r ≡ whole binary32 n ⌝ }
 {
-    if n < 0x4000_0000_0000 {
-        return halves_f32(n, 0);
-    }
-    let more = (n % 0x4_0000 + 0x3_ffff) / 0x4_0000;
-    halves_f32(n / 0x4_0000 | more, 18)
+    halves_f32(digits(n), place(n))
 }

@@ -1,70 +1,24 @@
--- `seconds::nearest::u64_to_f32` meets its contract: `proofs/LastDigits.antt` has what the last 18 bits count for. Assumes nothing.
+-- `seconds::nearest::u64_to_f32` meets its contract. Assumes nothing.
 use mathlib.Core.Path.{_≡_, ap, _∙_}
-use mathlib.Core.Logic.{_⊎_, inl, inr}
-use Prim.Native.Nat.{ℕ, _+_, _*_, _/_, _%_, _^_, _≤_, _<_, max}
-use native.Mathlib.Nat.{mul-one, eq-zero-or-pos}
+use mathlib.Core.Bool.{Bool, true, false, cond}
+use Prim.Native.Nat.{ℕ, _*_, _^_, _≤_}
 use native.Mathlib.Omega.{arith}
-use lib.Bits.{bitOr, or-step, or-zero-r, or-lt}
-use lib.Ieee.{binary32, size}
+use lib.Dec.{ltb}
+use lib.Ieee.{binary32}
 use Rattle.seconds.specs.Out.{whole}
-use Rattle.seconds.proofs.LastDigits.{size-above, same-float}
 use borrow.Author.Needs.{needs}
 use Rattle.seconds.proofs.nearest.u64_to_f32.Statement.{statement}
 use Rattle.seconds.proofs.nearest.u64_to_f32.Tie as tie
 
-abbrev more : ℕ → ℕ
-more n = (n % 0x4_0000 + 0x3_ffff) / 0x4_0000
+short : (b : Bool) → cond b 0 18 ≤ 18
+short true = omega arith
+short false = omega arith
 
-or-one : (x : ℕ) → bitOr x 1 ≡ x / 2 * 2 + 1
-or-one x = or-step x 1 ∙ ap (λ (z : ℕ). z * 2 + max (x % 2) 1) (or-zero-r (x / 2)) ∙ ap (λ (z : ℕ). x / 2 * 2 + z) (larger x)
-  where
-    larger : (x : ℕ) → max (x % 2) 1 ≡ 1
-    larger x = omega arith
-
--- none of the last 18 bits, or some: in those, the bit above them stands for all
-none-more : (n : ℕ) → n % 0x4_0000 ≡ 0 → more n ≡ 0
-none-more n h = omega arith
-
-some-more : (n : ℕ) → 0 < n % 0x4_0000 → more n ≡ 1
-some-more n h = omega arith
-
-no-rest : (n : ℕ) → n % 0x4_0000 ≡ 0 → n / 0x4_0000 * 2 ^ 18 ≡ n
-no-rest n h = omega arith
-
-set-of : (n : ℕ) → (n / 0x4_0000 / 2 * 2 + 1) * 2 ^ 18 ≡ n / 2 ^ 19 * 2 ^ 19 + 2 ^ 18
-set-of n = omega arith
-
-split : (n : ℕ) → n / 2 ^ 19 * 2 ^ 19 + n % 2 ^ 19 ≡ n
-split n = omega arith
-
-some : (n : ℕ) → 0 < n % 0x4_0000 → 0 < n % 2 ^ 19
-some n h = omega arith
-
-rest : (n : ℕ) → n % 2 ^ 19 < 2 ^ 19
-rest n = omega arith
-
-long : (n : ℕ) → 2 ^ 46 ≤ n → 24 < size (n / 2 ^ 19)
-long n h = size-above (n / 2 ^ 19) 24 (omega arith)
-
-sticky : (n : ℕ) → 2 ^ 46 ≤ n → whole binary32 (bitOr (n / 0x4_0000) (more n) * 2 ^ 18) ≡ whole binary32 n
-sticky n h = elim (eq-zero-or-pos (n % 0x4_0000)) [
-  | inl z ↦ ap (λ (w : ℕ). whole binary32 (bitOr (n / 0x4_0000) w * 2 ^ 18)) (none-more n z) ∙ ap (λ (w : ℕ). whole binary32 (w * 2 ^ 18)) (or-zero-r (n / 0x4_0000)) ∙ ap (whole binary32) (no-rest n z)
-  | inr z ↦
-      ap (λ (w : ℕ). whole binary32 (bitOr (n / 0x4_0000) w * 2 ^ 18)) (some-more n z)
-      ∙ ap (λ (w : ℕ). whole binary32 (w * 2 ^ 18)) (or-one (n / 0x4_0000))
-      ∙ ap (whole binary32) (set-of n)
-      ∙ same-float binary32 (n / 2 ^ 19) (2 ^ 18) (n % 2 ^ 19) 19 (long n h) (omega arith) (rest n) (omega arith) (some n z)
-      ∙ ap (whole binary32) (split n)
-]
+halves-f32-requires : tie.Need-halves-f32-requires
+halves-f32-requires c κs = (c .before .digits .ensures .0, omega (arith, c .place .ensures, short (ltb (c .before .before .args .n) (2 ^ 46))))
 
 returns : tie.Need-returns
-returns c = c .halves-f32 .ensures ∙ ap (whole binary32) (mul-one (c .before .before .args .n))
-
-halves-f32-requires-2 : tie.Need-halves-f32-requires-2
-halves-f32-requires-2 c κs = let n = c .before .args .n in (or-lt 46 (n / 0x4_0000) (more n) (omega arith) (omega arith), omega arith)
-
-returns-2 : tie.Need-returns-2
-returns-2 c = c .halves-f322 .ensures ∙ sticky (c .before .before .args .n) (c .before .if1 .left)
+returns c = let b = c .before in c .halves-f32 .ensures ∙ ap (λ (z : ℕ). whole binary32 (b .before .digits .result * 2 ^ z)) (b .place .ensures) ∙ b .before .digits .ensures .1
 
 pub u64-to-f32-spec : {M : Type 1} → statement M
-u64-to-f32-spec = tie.close (tie.spec (λ c κs. search needs) returns (λ c. search needs) halves-f32-requires-2 returns-2)
+u64-to-f32-spec = tie.close (tie.spec (λ c κs. search needs) (λ c κs. search needs) halves-f32-requires returns)
