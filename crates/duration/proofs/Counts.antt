@@ -1,7 +1,7 @@
 -- Counts of a unit: whole seconds up to a limit, and the door by the unit's number. Assumes nothing.
-use mathlib.Core.Path.{_≡_}
+use mathlib.Core.Path.{_≡_, ap, _∙_}
 use Prim.Native.Nat.{ℕ, _+_, _*_, _^_, _≤_, _<_}
-use native.Mathlib.Nat.{mul-le-mul-right, lt-of-le-of-lt, pos-of-ne-zero}
+use native.Mathlib.Nat.{mul-assoc, mul-le-mul-right, lt-of-le-of-lt, pos-of-ne-zero}
 use native.Mathlib.Omega.{arith}
 use lib.ListN.{getD}
 use borrow.Author.Tests.{le-leb, lt-leb}
@@ -30,6 +30,21 @@ unit-bad count {unit} h = rw (lt-leb unit 7 h)
 past : {u : ℕ} (k : ℕ) → k ≤ u → (u ≡ k → ⊥) → k + 1 ≤ u
 past k h n = omega arith
 
--- a unit that is none of the eight is above them
-pub above-seven : {u : ℕ} → (u ≡ 0 → ⊥) → (u ≡ 1 → ⊥) → (u ≡ 2 → ⊥) → (u ≡ 3 → ⊥) → (u ≡ 4 → ⊥) → (u ≡ 5 → ⊥) → (u ≡ 6 → ⊥) → (u ≡ 7 → ⊥) → 7 < u
-above-seven {u} a b c d e f g h = past 7 (past 6 (past 5 (past 4 (past 3 (past 2 (past 1 (pos-of-ne-zero a) b) c) d) e) f) g) h
+-- a unit that is none of the first three is a second or more
+pub above-two : {u : ℕ} → (u ≡ 0 → ⊥) → (u ≡ 1 → ⊥) → (u ≡ 2 → ⊥) → 3 ≤ u
+above-two a b c = past 2 (past 1 (pos-of-ne-zero a) b) c
+
+-- and one that is none of the last four is a second
+pub a-second : {u : ℕ} → 3 ≤ u → u ≤ 7 → (u ≡ 4 → ⊥) → (u ≡ 5 → ⊥) → (u ≡ 6 → ⊥) → (u ≡ 7 → ⊥) → u ≡ 3
+a-second l h a b c d = omega arith
+
+-- ---- a unit of whole seconds
+pub limited : {unit : ℕ} (k l : ℕ) → unit ≡ k → l * getD units k 0 < 2 ^ 64 * 10 ^ 9 → 2 ^ 64 * 10 ^ 9 ≤ (l + 1) * getD units k 0
+    → (l * getD units unit 0 < 2 ^ 64 * 10 ^ 9) × (2 ^ 64 * 10 ^ 9 ≤ (l + 1) * getD units unit 0)
+limited k l e f g = rw e (f, g)
+
+pub whole-limit : (s l : ℕ) {g : ℕ} → s * 10 ^ 9 ≡ g → (l * g < 2 ^ 64 * 10 ^ 9) × (2 ^ 64 * 10 ^ 9 ≤ (l + 1) * g) → (l * s < 2 ^ 64) × (2 ^ 64 ≤ (l + 1) * s)
+whole-limit s l {g} e h =
+    let a : l * s * 10 ^ 9 ≡ l * g = mul-assoc l s (10 ^ 9) ∙ ap (λ (v : ℕ). l * v) e in
+    let b : (l + 1) * s * 10 ^ 9 ≡ (l + 1) * g = mul-assoc (l + 1) s (10 ^ 9) ∙ ap (λ (v : ℕ). (l + 1) * v) e in
+    (omega (arith, h .0), omega (arith, h .1))

@@ -105,11 +105,7 @@ pub fn from_unit(count: u64, unit: u32) -> Answer
         0 => Answer::Is(from_nanos(count)),
         1 => Answer::Is(from_micros(count)),
         2 => Answer::Is(from_millis(count)),
-        3 => whole::seconds(count, 1, u64::MAX),
-        4 => whole::seconds(count, 60, 307_445_734_561_825_860),
-        5 => whole::seconds(count, 3_600, 5_124_095_576_030_431),
-        6 => whole::seconds(count, 86_400, 213_503_982_334_601),
-        7 => whole::seconds(count, 604_800, 30_500_568_904_943),
+        3..=7 => whole::seconds(count, whole::scale(unit), whole::limit(unit)),
         8.. => Answer::Refused(Refusal::BadUnit),
     }
 }
