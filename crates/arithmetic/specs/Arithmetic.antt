@@ -1,16 +1,5 @@
 -- Integer arithmetic over whole nanoseconds; of a pair that is no duration, BadDuration. Assumes nothing.
-use Prim.Native.Nat.{ℕ, _+_, _*_, _-_, _/_, min, max}
-use mathlib.Core.Bool.{cond, _&&_}
-use lib.Dec.{leb, eqb}
-use Rattle.refusal.specs.Numbers.{numberOf}
-use Rattle.refusal.specs.declared.Refusal.the-variants.{Underflow, ZeroDivisor, BadDuration}
-use Rattle.wide.specs.declared.WideAnswer.{WideAnswer}
-use Rattle.wide.specs.declared.WideAnswer.the-variants as Wide
-use Rattle.wide.specs.Wide.{words}
-use Rattle.duration.specs.declared.Duration.{Duration}
-use Rattle.duration.specs.declared.Answer.{Answer}
-use Rattle.duration.specs.declared.Answer.the-variants.{Is, Refused}
-use Rattle.duration.specs.Meaning.{N, valid, most, ofNanos, exact}
+use Rattle.laws.specs.Names.{ℕ, _+_, _*_, _-_, _/_, min, max, cond, _&&_, leb, eqb, numberOf, Underflow, ZeroDivisor, BadDuration, WideAnswer, words, Duration, Answer, Is, Refused, N, valid, most, ofNanos, exact}
 
 unfoldable pub added : Duration → Duration → Answer
 added a b = cond (valid a && valid b) (exact (N a + N b)) (Refused BadDuration)
@@ -32,15 +21,15 @@ shared d k = cond (valid d) (cond (eqb k 0) (Refused ZeroDivisor) (exact (N d / 
 
 -- a quotient q by d, or ZeroDivisor exactly where d is 0
 abbrev pub quotientOf : ℕ → ℕ → WideAnswer
-quotientOf q d = cond (eqb d 0) (Wide.Refused ZeroDivisor) (Wide.Is (words q))
+quotientOf q d = cond (eqb d 0) (WideAnswer.Refused ZeroDivisor) (WideAnswer.Is (words q))
 
 -- how many times a holds b, rounded down
 unfoldable pub floorOf : Duration → Duration → WideAnswer
-floorOf a b = cond (valid a && valid b) (quotientOf (N a / N b) (N b)) (Wide.Refused BadDuration)
+floorOf a b = cond (valid a && valid b) (quotientOf (N a / N b) (N b)) (WideAnswer.Refused BadDuration)
 
 -- the same, rounded up
 unfoldable pub ceilOf : Duration → Duration → WideAnswer
-ceilOf a b = cond (valid a && valid b) (quotientOf ((N a + (N b - 1)) / N b) (N b)) (Wide.Refused BadDuration)
+ceilOf a b = cond (valid a && valid b) (quotientOf ((N a + (N b - 1)) / N b) (N b)) (WideAnswer.Refused BadDuration)
 
 -- what a saturating operation answers in place of an answer: MAX for refusal 3, ZERO for 4, and else the same
 unfoldable pub saturated : Answer → Answer

@@ -1,12 +1,5 @@
 -- Two facts of floats in that the definition leaves open. Assumes nothing.
-use Prim.Native.Nat.{_/_}
-use mathlib.Core.Path.{_≡_}
-use lib.Dec.{T}
-use lib.Ieee.{Float, binary32, binary64, fits}
-use lib.Ieee.Positive.{num, den}
-use Rattle.refusal.specs.declared.Refusal.the-variants.{Overflow}
-use Rattle.duration.specs.declared.Duration.{Duration}
-use Rattle.duration.specs.declared.Answer.the-variants.{Is, Refused}
+use Rattle.laws.specs.Names.{_/_, _≡_, T, Float, binary32, binary64, fits, num, den, Overflow, Duration, Is, Refused}
 use Rattle.seconds.specs.From.{fromSeconds}
 
 -- an f32 never rounds up into the next second: the seconds of what it gives are its whole part

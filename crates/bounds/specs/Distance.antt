@@ -1,6 +1,5 @@
 -- What the statements here share. Assumes nothing.
-use Prim.Native.Nat.{ℕ, _+_, _-_, _^_, _<_}
-use Rattle.duration.specs.declared.Duration.{Duration}
+use Rattle.laws.specs.Names.{ℕ, _+_, _-_, _^_, _<_, Duration}
 
 -- the distance of two whole numbers: one of the two differences is 0, since a difference of natural numbers stops there
 abbrev pub apart : ℕ → ℕ → ℕ

@@ -1,14 +1,5 @@
 -- How far the six floats out are from what they stand for, over whole numbers: a finite float x is the fraction num x / den x. Assumes nothing.
-use Prim.Native.Nat.{ℕ, _-_, _*_, _^_, _≤_, _<_}
-use mathlib.Core.Path.{_≡_}
-use mathlib.Core.Logic.{_⊎_}
-use mathlib.Core.Bool.{false, cond}
-use lib.Dec.{eqb}
-use lib.Ieee.{Float, nan, inf, Format, prec, emax}
-use lib.Ieee.Exact.{HasValue}
-use lib.Ieee.Positive.{num, den}
-use Rattle.duration.specs.declared.Duration.{Duration}
-use Rattle.duration.specs.Meaning.{N}
+use Rattle.laws.specs.Names.{ℕ, _-_, _*_, _^_, _≤_, _<_, _≡_, _⊎_, false, cond, eqb, Float, nan, inf, Format, prec, emax, HasValue, num, den, Duration, N}
 use Rattle.seconds.specs.Out.{secondsAs, millisAs, quotientAs}
 use Rattle.bounds.specs.Distance.{apart, IsDuration}
 

@@ -1,16 +1,6 @@
 -- Demand 3: a duration as f64 seconds, and back. Stated over the conversions' own definitions. Assumes nothing.
-use Prim.Native.Nat.{_+_, _-_, _*_, _^_, _≤_, _<_}
-use mathlib.Core.Path.{_≡_}
-use mathlib.Core.Bool.{false}
-use lib.Ieee.{binary64}
-use lib.Ieee.Exact.{HasValue}
-use lib.Ieee.Positive.{num, den}
-use Rattle.refusal.specs.declared.Refusal.the-variants.{OverflowOrNan}
-use Rattle.duration.specs.declared.Duration.{Duration}
-use Rattle.duration.specs.declared.Answer.the-variants.{Is, Refused}
-use Rattle.duration.specs.Meaning.{N}
-use Rattle.seconds.specs.Out.{secondsAs}
-use Rattle.seconds.specs.From.{fromSeconds}
+use Rattle.laws.specs.Names.{_+_, _-_, _*_, _^_, _≤_, _<_, _≡_, false, binary64, HasValue, num, den, OverflowOrNan, Duration, Is, Refused, N}
+use Rattle.seconds.specs.From.{secondsAs, fromSeconds}
 use Rattle.bounds.specs.Distance.{apart, IsDuration}
 
 -- what comes back for d is e: within (whole seconds + 1) / 2 ^ 52 s and half a nanosecond, times 10 ^ 9 * 2 ^ 53

@@ -1,11 +1,7 @@
 -- What a duration means, and the exact answer of a whole number of nanoseconds. Assumes nothing.
-use Prim.Native.Nat.{ℕ, _+_, _*_, _-_, _/_, _%_, _^_}
-use mathlib.Core.Bool.{Bool, cond}
-use lib.Dec.{ltb, leb}
+use Rattle.refusal.specs.Library.{ℕ, _+_, _*_, _-_, _/_, _%_, _^_, Bool, cond, leb, ltb}
 use Rattle.refusal.specs.declared.Refusal.the-variants.{Overflow}
-use Rattle.duration.specs.declared.Duration.{Duration}
-use Rattle.duration.specs.declared.Answer.{Answer}
-use Rattle.duration.specs.declared.Answer.the-variants.{Is, Refused}
+pub use Rattle.duration.specs.declared.{Duration.Duration, Answer.Answer}
 
 -- the whole nanoseconds that a pair means
 abbrev pub N : Duration → ℕ
@@ -25,4 +21,4 @@ ofNanos n = record { secs = n / 10 ^ 9; nanos = n % 10 ^ 9 }
 
 -- the duration of n nanoseconds, or Overflow exactly where n is above MAX's
 unfoldable pub exact : ℕ → Answer
-exact n = cond (leb n most) (Is (ofNanos n)) (Refused Overflow)
+exact n = cond (leb n most) (Answer.Is (ofNanos n)) (Answer.Refused Overflow)

@@ -1,13 +1,7 @@
 -- The units by their number. Assumes nothing.
-use Prim.Native.Nat.{ℕ, _*_, _^_}
-use mathlib.Core.Bool.{cond}
-use mathlib.Core.List.{List, [], _∷_}
-use lib.ListN.{getD}
-use lib.Dec.{leb}
+use Rattle.refusal.specs.Library.{ℕ, _*_, _^_, cond, List, [], _∷_, getD, leb}
 use Rattle.refusal.specs.declared.Refusal.the-variants.{BadUnit}
-use Rattle.duration.specs.declared.Answer.{Answer}
-use Rattle.duration.specs.declared.Answer.the-variants.{Refused}
-use Rattle.duration.specs.Meaning.{exact}
+use Rattle.duration.specs.Meaning.{Answer, exact}
 
 -- the nanoseconds in a nanosecond, microsecond, millisecond, second, minute, hour, day and week, numbered from 0
 abbrev pub units : List ℕ
@@ -15,4 +9,4 @@ units = 1 ∷ 10 ^ 3 ∷ 10 ^ 6 ∷ 10 ^ 9 ∷ 60 * 10 ^ 9 ∷ 3600 * 10 ^ 9 ∷
 
 -- so many of the unit with that number, or BadUnit exactly where the number is above 7
 unfoldable pub fromUnit : ℕ → ℕ → Answer
-fromUnit count unit = cond (leb unit 7) (exact (count * getD units unit 0)) (Refused BadUnit)
+fromUnit count unit = cond (leb unit 7) (exact (count * getD units unit 0)) (Answer.Refused BadUnit)

@@ -1,8 +1,5 @@
 -- A number as bytes, and numbers one after the other. Assumes nothing.
-use Prim.Native.Nat.{ℕ, zero, suc, _+_, _*_, _/_, _%_, _^_, _<_}
-use mathlib.Core.Path.{_≡_}
-use mathlib.Core.List.{List, [], _∷_, _++_}
-use lib.ListN.{length, take, drop, getD, replicate}
+use Rattle.refusal.specs.Library.{ℕ, zero, suc, _+_, _*_, _/_, _%_, _^_, _<_, _≡_, List, [], _∷_, _++_, length, take, drop, getD, replicate}
 
 -- the k lowest bytes of n, the lowest first
 abbrev pub littleEndian : ℕ → ℕ → List ℕ

@@ -1,3 +1,4 @@
--- Definitions that several crates cite.
+-- Names and definitions that several crates cite.
 pub mod Bytes
 pub mod Written
+pub mod Names

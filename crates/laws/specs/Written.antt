@@ -1,8 +1,5 @@
 -- A list written into a list. Assumes nothing.
-use mathlib.Core.Path.{_≡_}
-use mathlib.Core.List.{List}
-use Prim.Native.Nat.{ℕ, _+_}
-use lib.ListN.{length, replicate}
+use Rattle.refusal.specs.Library.{ℕ, _+_, _≡_, List, length, replicate}
 use lib.Seq.{sets}
 
 -- xs with ys written from index i on, every other element as it was

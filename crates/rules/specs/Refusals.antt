@@ -1,35 +1,15 @@
 -- Document 01's refusal table: the order of checks, and every definition that a contract cites beside what the table says of it. Assumes nothing.
-use Prim.Native.Nat.{ℕ, suc, _+_, _-_, _*_, _%_, _^_, _≤_, _<_, min}
-use mathlib.Core.Path.{_≡_}
-use mathlib.Core.Logic.{_↔_}
-use mathlib.Core.Bool.{Bool, true, false, cond, not, _&&_, _||_}
-use mathlib.Core.List.{List, [], _∷_, _++_}
-use lib.IntN.{pos}
-use lib.ListN.{length, take, drop, getD}
-use lib.Dec.{T, leb, ltb, eqb}
-use lib.Ieee.{Float, fin, binary64, lt, le, isNan, fits, mul, div}
-use Rattle.laws.specs.Bytes.{decoded}
-use Rattle.refusal.specs.Numbers.{numberOf}
-use Rattle.refusal.specs.declared.Refusal.{Refusal}
-use Rattle.refusal.specs.declared.Refusal.the-variants as R
+use Rattle.laws.specs.Names.{ℕ, suc, _+_, _-_, _*_, _%_, _^_, _≤_, _<_, min, _≡_, _↔_, Bool, true, false, cond, not, _&&_, _||_, List, [], _∷_, _++_, length, take, drop, getD, T, leb, ltb, eqb, pos, Float, fin, binary64, lt, le, isNan, fits, mul, div, numberOf, Refusal, Negative, OverflowOrNan, Overflow, Underflow, ZeroDivisor, BadRow, BadRange, BadOptions, NoRoom, BadDuration, BadUnit, Duration, Is, N, valid, most, ofNanos, exact, decoded}
 use Rattle.wide.specs.Wide.{answer, difference, division}
 use Rattle.door.specs.Door as Door
-pub use Rattle.duration.specs.declared.Duration.{Duration}
-pub use Rattle.duration.specs.declared.Answer.the-variants.{Is, Refused}
-pub use Rattle.duration.specs.Meaning.{N, valid, most, ofNanos, exact}
 use Rattle.duration.specs.Units.{units, fromUnit}
 use Rattle.duration.specs.Parts.{asSecs, subsec, count, isZero, compared}
-pub use Rattle.arithmetic.specs.Arithmetic.{added, subtracted, apart, times, shared, floorOf, ceilOf, saturated}
+use Rattle.arithmetic.specs.Arithmetic.{added, subtracted, apart, times, shared, floorOf, ceilOf, saturated}
 use Rattle.sums.specs.Sum.{rows, total, sumOf, sumBytes}
-pub use Rattle.seconds.specs.Out.{secondsAs, f64If, f32If}
-pub use Rattle.seconds.specs.From.{fromSeconds, timesFloat, overFloat}
-use Rattle.text.specs.declared.Count.{Count}
-pub use Rattle.text.specs.declared.Count.the-variants.{Unset, Set}
-use Rattle.text.specs.declared.Options.{Options}
-use Rattle.text.specs.declared.TextAnswer.{TextAnswer}
-use Rattle.text.specs.declared.TextAnswer.the-variants as Text
-pub use Rattle.text.specs.Text.{text}
-use Rattle.text.specs.Answer.{answerOf}
+use Rattle.seconds.specs.Out.{secondsAs, f64If, f32If}
+use Rattle.seconds.specs.From.{fromSeconds, timesFloat, overFloat}
+use Rattle.text.specs.declared.{Count.Count, Options.Options, TextAnswer.TextAnswer}
+use Rattle.text.specs.Answer.{text, answerOf}
 use Rattle.saltribbon.specs.declared.reply.Reply.{Reply}
 use Rattle.saltribbon.specs.Reply.{codeOf, leftIn, ofDuration, ofSum, ofWide, ofWord, ofPart, ofFlag, ofOrder, ofF64, ofF32}
 
@@ -86,64 +66,64 @@ bad d = leb (10 ^ 9) (d .nanos)
 
 -- a float to be converted: below zero; a NaN or at least 2 ^ 64
 abbrev pub converted : Float → Grounds
-converted x = (R.Negative, lt x (fin false 0 (pos 0))) ∷ (R.OverflowOrNan, isNan x || le (fin false 1 (pos 64)) x) ∷ []
+converted x = (Negative, lt x (fin false 0 (pos 0))) ∷ (OverflowOrNan, isNan x || le (fin false 1 (pos 64)) x) ∷ []
 
 -- a list: over C bytes that are no whole rows; slices of unequal length, first > end, end > that length; a bad row in the range; a total above MAX
 abbrev pub listed : Bool → List ℕ → List ℕ → ℕ → ℕ → Grounds
 listed odd ss ns first end =
     let range = take (end - first) (drop first (rows ss ns)) in
-    (R.BadRange, odd || not (eqb (length ss) (length ns)) || ltb end first || ltb (length ss) end) ∷ (R.BadRow, any bad range) ∷ (R.Overflow, ltb most (total range)) ∷ []
+    (BadRange, odd || not (eqb (length ss) (length ns)) || ltb end first || ltb (length ss) end) ∷ (BadRow, any bad range) ∷ (Overflow, ltb most (total range)) ∷ []
 
 -- a count of fraction digits or of characters above 255
 abbrev pub above : Count → Bool
-above Unset = false
-above (Set n) = ltb 255 n
+above Count.Unset = false
+above (Count.Set n) = ltb 255 n
 
 abbrev pub badOptions : Options → Bool
 badOptions o = ltb 1 (o .plus) || ltb 3 (o .alignment) || ltb (o .fill) 0x20 || ltb 0x7E (o .fill) || above (o .precision) || above (o .width)
 
 -- a text's number: its refusal's, or 0
 abbrev pub textCode : TextAnswer → ℕ
-textCode (Text.Is k) = 0
-textCode (Text.Refused r) = numberOf r
+textCode (TextAnswer.Is k) = 0
+textCode (TextAnswer.Refused r) = numberOf r
 
 -- a call with 16 bytes to write into a buffer of so many
 abbrev pub call : ℕ → Reply → Grounds → ℕ × Grounds
-call room a l = (codeOf a room, l ++ (R.NoRoom, ltb room 16) ∷ [])
+call room a l = (codeOf a room, l ++ (NoRoom, ltb room 16) ∷ [])
 
 -- two-word operations; constructors; parts; integers; sums; floats out; floats in; text. i and j stand for counts, units, factors, divisors, first and end
 abbrev pub table : (room i j : ℕ) (a b : Duration) (ss ns : List ℕ) (x : Float) (o : Options) → List (ℕ × Grounds)
 table room i j a b ss ns x o =
-    (Door.codeOf (Door.ofAnswer (answer i)), (R.Overflow, leb (2 ^ 128) i) ∷ [])
-    ∷ (Door.codeOf (Door.ofAnswer (difference i j)), (R.Underflow, ltb i j) ∷ [])
-    ∷ (Door.codeOf (Door.ofDivision (division i j)), (R.ZeroDivisor, eqb j 0) ∷ [])
-    ∷ call room (ofDuration (exact i)) ((R.Overflow, ltb most i) ∷ [])
-    ∷ call room (ofDuration (fromUnit i j)) ((R.BadUnit, ltb 7 j) ∷ (R.Overflow, ltb most (i * getD units j 0)) ∷ [])
-    ∷ call room (ofWord (asSecs a)) ((R.BadDuration, bad a) ∷ [])
-    ∷ call room (ofPart (subsec i a)) ((R.BadDuration, bad a) ∷ [])
-    ∷ call room (ofWide (count i a)) ((R.BadDuration, bad a) ∷ [])
-    ∷ call room (ofFlag (isZero a)) ((R.BadDuration, bad a) ∷ [])
-    ∷ call room (ofOrder (compared a b)) ((R.BadDuration, bad a || bad b) ∷ [])
-    ∷ call room (ofDuration (added a b)) ((R.BadDuration, bad a || bad b) ∷ (R.Overflow, ltb most (N a + N b)) ∷ [])
-    ∷ call room (ofDuration (subtracted a b)) ((R.BadDuration, bad a || bad b) ∷ (R.Underflow, ltb (N a) (N b)) ∷ [])
-    ∷ call room (ofDuration (apart a b)) ((R.BadDuration, bad a || bad b) ∷ [])
-    ∷ call room (ofDuration (times a i)) ((R.BadDuration, bad a) ∷ (R.Overflow, ltb most (N a * i)) ∷ [])
-    ∷ call room (ofDuration (shared a i)) ((R.BadDuration, bad a) ∷ (R.ZeroDivisor, eqb i 0) ∷ [])
-    ∷ call room (ofWide (floorOf a b)) ((R.BadDuration, bad a || bad b) ∷ (R.ZeroDivisor, eqb (N b) 0) ∷ [])
-    ∷ call room (ofWide (ceilOf a b)) ((R.BadDuration, bad a || bad b) ∷ (R.ZeroDivisor, eqb (N b) 0) ∷ [])
-    ∷ call room (ofDuration (saturated (added a b))) ((R.BadDuration, bad a || bad b) ∷ [])
-    ∷ call room (ofDuration (saturated (subtracted a b))) ((R.BadDuration, bad a || bad b) ∷ [])
-    ∷ call room (ofDuration (saturated (times a i))) ((R.BadDuration, bad a) ∷ [])
+    (Door.codeOf (Door.ofAnswer (answer i)), (Overflow, leb (2 ^ 128) i) ∷ [])
+    ∷ (Door.codeOf (Door.ofAnswer (difference i j)), (Underflow, ltb i j) ∷ [])
+    ∷ (Door.codeOf (Door.ofDivision (division i j)), (ZeroDivisor, eqb j 0) ∷ [])
+    ∷ call room (ofDuration (exact i)) ((Overflow, ltb most i) ∷ [])
+    ∷ call room (ofDuration (fromUnit i j)) ((BadUnit, ltb 7 j) ∷ (Overflow, ltb most (i * getD units j 0)) ∷ [])
+    ∷ call room (ofWord (asSecs a)) ((BadDuration, bad a) ∷ [])
+    ∷ call room (ofPart (subsec i a)) ((BadDuration, bad a) ∷ [])
+    ∷ call room (ofWide (count i a)) ((BadDuration, bad a) ∷ [])
+    ∷ call room (ofFlag (isZero a)) ((BadDuration, bad a) ∷ [])
+    ∷ call room (ofOrder (compared a b)) ((BadDuration, bad a || bad b) ∷ [])
+    ∷ call room (ofDuration (added a b)) ((BadDuration, bad a || bad b) ∷ (Overflow, ltb most (N a + N b)) ∷ [])
+    ∷ call room (ofDuration (subtracted a b)) ((BadDuration, bad a || bad b) ∷ (Underflow, ltb (N a) (N b)) ∷ [])
+    ∷ call room (ofDuration (apart a b)) ((BadDuration, bad a || bad b) ∷ [])
+    ∷ call room (ofDuration (times a i)) ((BadDuration, bad a) ∷ (Overflow, ltb most (N a * i)) ∷ [])
+    ∷ call room (ofDuration (shared a i)) ((BadDuration, bad a) ∷ (ZeroDivisor, eqb i 0) ∷ [])
+    ∷ call room (ofWide (floorOf a b)) ((BadDuration, bad a || bad b) ∷ (ZeroDivisor, eqb (N b) 0) ∷ [])
+    ∷ call room (ofWide (ceilOf a b)) ((BadDuration, bad a || bad b) ∷ (ZeroDivisor, eqb (N b) 0) ∷ [])
+    ∷ call room (ofDuration (saturated (added a b))) ((BadDuration, bad a || bad b) ∷ [])
+    ∷ call room (ofDuration (saturated (subtracted a b))) ((BadDuration, bad a || bad b) ∷ [])
+    ∷ call room (ofDuration (saturated (times a i))) ((BadDuration, bad a) ∷ [])
     ∷ call room (ofSum (sumOf ss ns i j)) (listed false ss ns i j)
     ∷ call room (ofSum (sumBytes ss ns i j)) (listed (not (eqb (length ss % 8) 0) || not (eqb (length ns % 4) 0)) (decoded 8 ss) (decoded 4 ns) i j)
-    ∷ call room (ofF64 (f64If (valid a) x)) ((R.BadDuration, bad a) ∷ [])
-    ∷ call room (ofF32 (f32If (valid a) x)) ((R.BadDuration, bad a) ∷ [])
-    ∷ call room (ofF64 (f64If (valid a && valid b) x)) ((R.BadDuration, bad a || bad b) ∷ [])
-    ∷ call room (ofF32 (f32If (valid a && valid b) x)) ((R.BadDuration, bad a || bad b) ∷ [])
+    ∷ call room (ofF64 (f64If (valid a) x)) ((BadDuration, bad a) ∷ [])
+    ∷ call room (ofF32 (f32If (valid a) x)) ((BadDuration, bad a) ∷ [])
+    ∷ call room (ofF64 (f64If (valid a && valid b) x)) ((BadDuration, bad a || bad b) ∷ [])
+    ∷ call room (ofF32 (f32If (valid a && valid b) x)) ((BadDuration, bad a || bad b) ∷ [])
     ∷ call room (ofDuration (fromSeconds x)) (converted x)
-    ∷ call room (ofDuration (timesFloat a x)) ((R.BadDuration, bad a) ∷ converted (mul binary64 x (secondsAs binary64 a)))
-    ∷ call room (ofDuration (overFloat a x)) ((R.BadDuration, bad a) ∷ converted (div binary64 (secondsAs binary64 a) x))
-    ∷ (textCode (answerOf a o room), (R.BadDuration, bad a) ∷ (R.BadOptions, badOptions o) ∷ (R.NoRoom, ltb room (length (text (N a) o))) ∷ [])
+    ∷ call room (ofDuration (timesFloat a x)) ((BadDuration, bad a) ∷ converted (mul binary64 x (secondsAs binary64 a)))
+    ∷ call room (ofDuration (overFloat a x)) ((BadDuration, bad a) ∷ converted (div binary64 (secondsAs binary64 a) x))
+    ∷ (textCode (answerOf a o room), (BadDuration, bad a) ∷ (BadOptions, badOptions o) ∷ (NoRoom, ltb room (length (text (N a) o))) ∷ [])
     ∷ []
 
 -- the seconds are words, and the float is an f64, as every f32 is
@@ -152,7 +132,7 @@ Table = (room i j : ℕ) (a b : Duration) (ss ns : List ℕ) (x : Float) (o : Op
 
 -- a constructor never gives 10
 abbrev pub NeverBad : Type 0
-NeverBad = (room n : ℕ) → codeOf (ofDuration (exact n)) room ≡ numberOf R.BadDuration → ⊥
+NeverBad = (room n : ℕ) → codeOf (ofDuration (exact n)) room ≡ numberOf BadDuration → ⊥
 
 -- a saturating operation answers MAX in place of more, and ZERO in place of less, where a difference of natural numbers stops
 abbrev pub Saturates : Type 0

@@ -1,15 +1,10 @@
 -- The samples that document 01 marks as proved, as one table. Assumes nothing.
-use Prim.Native.Nat.{ℕ, _-_, _^_}
-use mathlib.Core.Path.{_≡_}
-use mathlib.Core.Bool.{true, false}
-use mathlib.Core.List.{List, [], _∷_}
-use lib.IntN.{pos, negsuc}
-use lib.Ieee.{Float, inf, fin, binary64, ofBits}
-use Rattle.refusal.specs.declared.Refusal.the-variants.{Negative, OverflowOrNan}
-use Rattle.wide.specs.declared.WideAnswer.the-variants as Wide
-use Rattle.wide.specs.Wide.{words}
-use Rattle.duration.specs.declared.Answer.{Answer}
-use Rattle.rules.specs.Refusals.{All, Duration, Is, Refused, N, floorOf, ceilOf, secondsAs, fromSeconds, Unset, Set, text}
+use Rattle.laws.specs.Names.{ℕ, _-_, _^_, _≡_, true, false, List, [], _∷_, pos, negsuc, Float, inf, fin, binary64, ofBits, Negative, OverflowOrNan, WideAnswer, words, Duration, Answer, Is, Refused, N}
+use Rattle.arithmetic.specs.Arithmetic.{floorOf, ceilOf}
+use Rattle.seconds.specs.From.{secondsAs, fromSeconds}
+use Rattle.text.specs.declared.Count.{Count}
+use Rattle.text.specs.Text.{text}
+use Rattle.rules.specs.Refusals.{All}
 
 -- a float in and its answer; the text of a duration without fraction digits; a quotient rounded down, and up
 pub data Sample : Type 0 where
@@ -19,9 +14,9 @@ pub data Sample : Type 0 where
 
 abbrev pub Holds : Sample → Type 0
 Holds (fromFloat x r) = fromSeconds x ≡ r
-Holds (printed d t) = text (N d) (record { plus = 0; precision = Set 0; width = Unset; alignment = 0; fill = 0x20 }) ≡ t
-Holds (floor a b n) = floorOf a b ≡ Wide.Is (words n)
-Holds (ceiling a b n) = ceilOf a b ≡ Wide.Is (words n)
+Holds (printed d t) = text (N d) (record { plus = 0; precision = Count.Set 0; width = Count.Unset; alignment = 0; fill = 0x20 }) ≡ t
+Holds (floor a b n) = floorOf a b ≡ WideAnswer.Is (words n)
+Holds (ceiling a b n) = ceilOf a b ≡ WideAnswer.Is (words n)
 
 abbrev of : ℕ → ℕ → Duration
 of s n = record { secs = s; nanos = n }

@@ -1,22 +1,8 @@
 -- What the text's C function takes, returns and leaves in the lent buffer. Assumes nothing.
-use Prim.Native.Nat.{ℕ, zero, suc, _-_, _^_, _<_}
-use mathlib.Core.Path.{_≡_}
-use mathlib.Core.Bool.{Bool, _&&_}
-use mathlib.Core.List.{List}
-use lib.IntN.{ℤ, pos, negsuc, negℤ}
-use lib.ListN.{length}
 use lib.Signed.{leZ}
-use Rattle.refusal.specs.Numbers.{numberOf}
-use Rattle.duration.specs.declared.Duration.{Duration}
-use Rattle.duration.specs.Meaning.{N}
-use Rattle.text.specs.declared.Count.{Count}
-use Rattle.text.specs.declared.Count.the-variants.{Unset, Set}
-use Rattle.text.specs.declared.Options.{Options}
-use Rattle.text.specs.declared.TextAnswer.{TextAnswer}
-use Rattle.text.specs.declared.TextAnswer.the-variants.{Is, Refused}
-use Rattle.text.specs.Options.{limit, accepts}
-use Rattle.text.specs.Text.{text}
-use Rattle.text.specs.Answer.{answerOf, leftIn}
+use Rattle.laws.specs.Names.{ℕ, zero, suc, _-_, _^_, _<_, _≡_, Bool, _&&_, List, length, ℤ, pos, negsuc, negℤ, numberOf, Duration, N}
+use Rattle.text.specs.declared.{Count.Count, Options.Options, TextAnswer.TextAnswer}
+use Rattle.text.specs.Answer.{limit, accepts, text, answerOf, leftIn}
 
 -- an option's number: what is below zero is the largest word, which no limit admits
 abbrev pub optionOf : ℤ → ℕ
@@ -25,22 +11,22 @@ optionOf (negsuc n) = 2 ^ 64 - 1
 
 -- a number of digits or of characters: -1 is none
 abbrev pub countOf : ℤ → Count
-countOf (pos n) = Set n
-countOf (negsuc zero) = Unset
-countOf (negsuc (suc n)) = Set (2 ^ 64 - 1)
+countOf (pos n) = Count.Set n
+countOf (negsuc zero) = Count.Unset
+countOf (negsuc (suc n)) = Count.Set (2 ^ 64 - 1)
 
 abbrev pub optionsOf : ℤ → ℤ → ℤ → ℤ → ℤ → Options
 optionsOf plus precision width align fill = record { plus = optionOf plus; precision = countOf precision; width = countOf width; alignment = optionOf align; fill = optionOf fill }
 
 -- the length, or the refusal's number negated
 abbrev pub signedOf : TextAnswer → ℤ
-signedOf (Is k) = pos k
-signedOf (Refused f) = negℤ (pos (numberOf f))
+signedOf (TextAnswer.Is k) = pos k
+signedOf (TextAnswer.Refused f) = negℤ (pos (numberOf f))
 
 -- a length that is a signed word
 abbrev pub Short : TextAnswer → Type 0
-Short (Is k) = k < 2 ^ 63
-Short (Refused f) = Unit {0}
+Short (TextAnswer.Is k) = k < 2 ^ 63
+Short (TextAnswer.Refused f) = Unit {0}
 
 -- what a call that returns r does
 pub record Said (before after : List ℕ) (d : Duration) (o : Options) (r : ℤ) : Type 0 where

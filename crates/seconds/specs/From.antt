@@ -1,16 +1,6 @@
 -- A float of seconds as a duration. Assumes nothing.
-use Prim.Native.Nat.{ℕ, _*_, _^_}
-use mathlib.Core.Bool.{cond, false}
-use lib.IntN.{pos}
-use lib.Dec.{leb}
-use lib.Ieee.{Float, nan, inf, fin, binary64, up, down, lt, mul, div}
-use lib.Ieee.Nearest.{closest}
-use Rattle.refusal.specs.declared.Refusal.the-variants.{Negative, OverflowOrNan, BadDuration}
-use Rattle.duration.specs.declared.Duration.{Duration}
-use Rattle.duration.specs.declared.Answer.{Answer}
-use Rattle.duration.specs.declared.Answer.the-variants.{Refused}
-use Rattle.duration.specs.Meaning.{valid, exact}
-use Rattle.seconds.specs.Out.{secondsAs}
+use Rattle.laws.specs.Names.{ℕ, _*_, _^_, false, cond, leb, pos, Float, nan, inf, fin, binary64, up, down, lt, mul, div, closest, Negative, OverflowOrNan, BadDuration, Duration, Answer, Refused, valid, exact}
+pub use Rattle.seconds.specs.Out.{secondsAs}
 
 -- a / b seconds: OverflowOrNan from 2 ^ 64 on, and otherwise the nearest whole nanosecond, a tie to the even one
 unfoldable pub ofFraction : ℕ → ℕ → Answer

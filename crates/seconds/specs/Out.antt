@@ -1,14 +1,6 @@
 -- A duration as a float of either format f, each operation rounded once, in the Rust's order. Assumes nothing.
-use Prim.Native.Nat.{ℕ, _^_}
-use mathlib.Core.Bool.{Bool, cond}
-use lib.IntN.{pos}
-use lib.Ieee.{Float, Format, ofInt, add, mul, div}
-use Rattle.refusal.specs.declared.Refusal.the-variants.{BadDuration}
-use Rattle.duration.specs.declared.Duration.{Duration}
-use Rattle.seconds.specs.declared.F64Answer.{F64Answer}
-use Rattle.seconds.specs.declared.F64Answer.the-variants as F64
-use Rattle.seconds.specs.declared.F32Answer.{F32Answer}
-use Rattle.seconds.specs.declared.F32Answer.the-variants as F32
+use Rattle.laws.specs.Names.{ℕ, _^_, Bool, cond, pos, Float, Format, ofInt, add, mul, div, BadDuration, Duration}
+use Rattle.seconds.specs.declared.{F64Answer.F64Answer, F32Answer.F32Answer}
 
 -- a whole number, rounded where it is too wide
 abbrev pub whole : Format → ℕ → Float
@@ -32,7 +24,7 @@ quotientAs f a b = div f (nanosAs f a) (nanosAs f b)
 
 -- a float of each width as an answer, or BadDuration where a pair that it is made of is no duration
 abbrev pub f64If : Bool → Float → F64Answer
-f64If ok x = cond ok (F64.Is x) (F64.Refused BadDuration)
+f64If ok x = cond ok (F64Answer.Is x) (F64Answer.Refused BadDuration)
 
 abbrev pub f32If : Bool → Float → F32Answer
-f32If ok x = cond ok (F32.Is x) (F32.Refused BadDuration)
+f32If ok x = cond ok (F32Answer.Is x) (F32Answer.Refused BadDuration)

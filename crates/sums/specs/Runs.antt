@@ -1,18 +1,8 @@
 -- What a sum that is not carried yet stands for: what the contracts of the private functions of `sum` cite. Assumes nothing.
-use Prim.Native.Nat.{ℕ, _+_, _*_, _^_, _≤_, _<_, min}
-use mathlib.Core.Path.{_≡_}
-use mathlib.Core.Bool.{cond}
-use mathlib.Core.List.{List}
-use lib.ListN.{length}
-use lib.Dec.{ltb}
+use Rattle.laws.specs.Names.{ℕ, _+_, _*_, _^_, _≤_, _<_, min, _≡_, cond, List, length, ltb, BadRow, Duration, exact}
 use lib.Bits.{bitOr}
-use Rattle.refusal.specs.declared.Refusal.the-variants.{BadRow}
-use Rattle.duration.specs.declared.Duration.{Duration}
-use Rattle.sums.specs.declared.SumAnswer.{SumAnswer}
-use Rattle.sums.specs.declared.SumAnswer.the-variants.{Refused}
 use Rattle.sums.specs.declared.run.Run.{Run}
-use Rattle.duration.specs.Meaning.{exact}
-use Rattle.sums.specs.Sum.{summed, total, allValid}
+use Rattle.sums.specs.Sum.{SumAnswer, summed, total, allValid}
 
 -- the nanoseconds that a run stands for
 unfoldable pub worth : Run → ℕ
@@ -50,4 +40,4 @@ pub record Joined (t b r : Run) : Type 0 where
 
 -- the answer that a carried run gives
 unfoldable pub answerOf : Run → SumAnswer
-answerOf r = cond (ltb (r .bad) (2 ^ 32)) (summed (exact (worth r))) (Refused BadRow)
+answerOf r = cond (ltb (r .bad) (2 ^ 32)) (summed (exact (worth r))) (SumAnswer.Refused BadRow)

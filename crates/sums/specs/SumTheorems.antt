@@ -1,13 +1,7 @@
 -- What is proved of the sum's definition, in proofs/SumTheorems.antt. Assumes nothing.
-use Prim.Native.Nat.{ℕ, _^_, _≤_, _<_}
-use mathlib.Core.Path.{_≡_}
-use mathlib.Core.List.{List, List·Permᴰ}
-use lib.ListN.{length, getD}
-use Rattle.laws.specs.Bytes.{encoded}
-use Rattle.duration.specs.declared.Duration.{Duration}
-use Rattle.sums.specs.declared.SumAnswer.the-variants.{Is}
-use Rattle.duration.specs.Meaning.{ofNanos}
-use Rattle.sums.specs.Sum.{ofRows, sumOf, sumBytes}
+use mathlib.Core.List.{List·Permᴰ}
+use Rattle.laws.specs.Names.{ℕ, _^_, _≤_, _<_, _≡_, List, length, getD, Duration, ofNanos, encoded}
+use Rattle.sums.specs.Sum.{SumAnswer, ofRows, sumOf, sumBytes}
 
 -- any order of the rows gives the same answer
 abbrev pub AnyOrder : Type 0
@@ -15,7 +9,7 @@ AnyOrder = (ds es : List Duration) → List·Permᴰ ds es → ofRows ds ≡ ofR
 
 -- an empty range gives ZERO
 abbrev pub EmptyIsZero : Type 0
-EmptyIsZero = (ss ns : List ℕ) (k : ℕ) → length ss ≡ length ns → k ≤ length ss → sumOf ss ns k k ≡ Is (ofNanos 0)
+EmptyIsZero = (ss ns : List ℕ) (k : ℕ) → length ss ≡ length ns → k ≤ length ss → sumOf ss ns k k ≡ SumAnswer.Is (ofNanos 0)
 
 -- the sum over bytes answers as the sum over numbers does
 abbrev pub BytesAsNumbers : Type 0

@@ -16,8 +16,7 @@ use Rattle.text.specs.declared.Count.the-variants.{Unset, Set}
 use Rattle.text.specs.declared.fraction.Fraction.{Fraction}
 use Rattle.text.specs.declared.round.Rounded.{Rounded}
 use Rattle.text.specs.declared.number.Number.{Number}
-use Rattle.text.specs.Least.{least}
-use Rattle.text.specs.Digits.{lastDigits, decimal, pointed, numeral}
+use Rattle.text.specs.Digits.{least, lastDigits, decimal, pointed, numeral}
 use Rattle.text.specs.Options.{limit}
 use Rattle.text.specs.Text.{exactPlaces, placesOf, shown}
 use Rattle.text.specs.Parts.{fractionOf, nearestTo, Rounds, laid, Whole, Laid}

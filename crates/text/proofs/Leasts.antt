@@ -7,7 +7,7 @@ use native.Mathlib.Omega.{arith}
 use mathlib.Core.Logic.{inl, inr}
 use lib.Arith.{le-zero}
 use Rattle.laws.proofs.Closest.{le-or-lt}
-use Rattle.text.specs.Least.{least}
+use Rattle.text.specs.Digits.{least}
 
 pub least-is : (p : ℕ → Bool) (f j : ℕ) → j ≤ f → p j ≡ true → ((i : ℕ) → i < j → p i ≡ false) → least p f ≡ j
 unfolding least

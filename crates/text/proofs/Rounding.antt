@@ -15,8 +15,7 @@ use Rattle.laws.proofs.Closest.{at-lt, at-eq, at-gt}
 use Rattle.laws.proofs.Written.{splice-is}
 use Rattle.text.specs.declared.fraction.Fraction.{Fraction}
 use Rattle.text.specs.declared.round.Rounded.{Rounded}
-use Rattle.text.specs.Least.{least}
-use Rattle.text.specs.Digits.{lastDigits}
+use Rattle.text.specs.Digits.{least, lastDigits}
 use Rattle.text.specs.Text.{exactPlaces}
 use Rattle.text.specs.Parts.{fractionOf, nearestTo, Rounds}
 use Rattle.text.proofs.Decimals.{ten-pos, length-digits, digits-take, digit-at, digits-low}

@@ -9,8 +9,7 @@ use lib.Dec.{lit<, eqb}
 use lib.Ieee.Nearest.{closest-same}
 use Rattle.text.specs.declared.Count.{Count}
 use Rattle.text.specs.declared.Count.the-variants.{Unset, Set}
-use Rattle.text.specs.Least.{least}
-use Rattle.text.specs.Digits.{numeral}
+use Rattle.text.specs.Digits.{least, numeral}
 use Rattle.text.specs.Text.{exactPlaces, placesOf, shown}
 use Rattle.text.proofs.Leasts.{least-bound}
 use Rattle.text.proofs.Decimals.{ten-pos}

@@ -8,8 +8,7 @@ use native.Mathlib.Omega.{arith}
 use borrow.Author.Tests.{lt-ltb, ltb-true, ltb-false}
 use lib.Arith.{mod-mul}
 use lib.Dec.{ltb}
-use Rattle.text.specs.Least.{least}
-use Rattle.text.specs.Digits.{lastDigits, width, decimal}
+use Rattle.text.specs.Digits.{least, lastDigits, width, decimal}
 use Rattle.text.specs.Theorems.{valueFrom}
 use Rattle.text.proofs.Leasts.{least-at, least-before}
 use Rattle.text.proofs.Decimals.{ten-pos, index-lt}

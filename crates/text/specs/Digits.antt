@@ -1,8 +1,10 @@
--- Decimal digits, as bytes. Assumes nothing.
-use Prim.Native.Nat.{ℕ, zero, suc, _+_, _/_, _%_, _^_}
-use mathlib.Core.List.{List, [], _∷_, _++_}
-use lib.Dec.{ltb}
-use Rattle.text.specs.Least.{least}
+-- Decimal digits, as bytes, and the fewest that do. Assumes nothing.
+use Rattle.laws.specs.Names.{ℕ, zero, suc, _+_, _/_, _%_, _^_, Bool, cond, List, [], _∷_, _++_, ltb}
+
+-- the least of 0 .. f that has the property, or f where none below it has
+unfoldable pub least : (ℕ → Bool) → ℕ → ℕ
+least p zero = zero
+least p (suc f) = cond (p zero) zero (suc (least (λ (i : ℕ). p (suc i)) f))
 
 -- the last k decimal digits of n
 unfoldable pub lastDigits : ℕ → ℕ → List ℕ

@@ -1,5 +1,4 @@
 -- What the contracts of `text` cite, and the theorems about its definitions.
-pub mod Least
 pub mod Digits
 pub mod Options
 pub mod Text

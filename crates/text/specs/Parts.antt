@@ -1,19 +1,8 @@
 -- What passes between the steps of printing: a duration in its unit, the digits of a fraction, a number laid out. Assumes nothing.
-use Prim.Native.Nat.{ℕ, _+_, _-_, _*_, _/_, _^_, _≤_, _<_}
-use mathlib.Core.Path.{_≡_}
-use mathlib.Core.List.{List, _++_}
-use lib.ListN.{length, take}
-use lib.Ieee.Nearest.{closest}
-use Rattle.laws.specs.Written.{times}
-use Rattle.text.specs.declared.unit.Scaled.{Scaled}
-use Rattle.text.specs.declared.fraction.Fraction.{Fraction}
-use Rattle.text.specs.declared.round.Rounded.{Rounded}
-use Rattle.text.specs.declared.number.Number.{Number}
-use Rattle.text.specs.declared.plain.Plain.{Plain}
-use Rattle.text.specs.declared.plain.Size.{Size}
+use Rattle.laws.specs.Names.{ℕ, _+_, _-_, _*_, _/_, _^_, _≤_, _<_, _≡_, List, _++_, length, take, closest, times}
+use Rattle.text.specs.declared.{unit.Scaled.Scaled, fraction.Fraction.Fraction, round.Rounded.Rounded, number.Number.Number, plain.Plain.Plain, plain.Size.Size}
 use Rattle.text.specs.Digits.{lastDigits, decimal, pointed}
-use Rattle.text.specs.Options.{limit}
-use Rattle.text.specs.Text.{measure, suffixOf, unitOf, exactPlaces, characters}
+use Rattle.text.specs.Text.{limit, measure, suffixOf, unitOf, exactPlaces, characters}
 
 -- s is n nanoseconds in their unit
 pub record Scales (n : ℕ) (s : Scaled) : Type 0 where

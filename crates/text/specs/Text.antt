@@ -1,17 +1,8 @@
 -- The text of n nanoseconds. It is said over n and the options alone: a text does not know its buffer. Assumes nothing.
-use Prim.Native.Nat.{ℕ, suc, _-_, _*_, _/_, _%_, _^_}
-use mathlib.Core.Bool.{cond, _&&_}
-use mathlib.Core.List.{List, [], _∷_, _++_}
-use lib.Dec.{leb, ltb, eqb}
-use lib.Ieee.Nearest.{closest}
-use Rattle.laws.specs.Written.{times}
-use Rattle.text.specs.declared.Count.{Count}
-use Rattle.text.specs.declared.Count.the-variants.{Unset, Set}
-use Rattle.text.specs.declared.Options.{Options}
+use Rattle.laws.specs.Names.{ℕ, suc, _-_, _*_, _/_, _%_, _^_, cond, _&&_, List, [], _∷_, _++_, leb, ltb, eqb, closest, times}
 use Rattle.text.specs.declared.unit.Unit.{Unit}
-use Rattle.text.specs.declared.unit.Unit.the-variants.{Seconds, Millis, Micros, Nanos}
-use Rattle.text.specs.Least.{least}
-use Rattle.text.specs.Digits.{numeral}
+use Rattle.text.specs.Digits.{least, numeral}
+pub use Rattle.text.specs.Options.{Count, Options, limit, accepts}
 
 -- a unit is 10 ^ places nanoseconds, and has a suffix
 pub record Measure : Type 0 where
@@ -19,17 +10,17 @@ pub record Measure : Type 0 where
   pub suffix : List ℕ
 
 abbrev pub measure : Unit → Measure
-measure Seconds = record { places = 9; suffix = 115 ∷ [] }
-measure Millis = record { places = 6; suffix = 109 ∷ 115 ∷ [] }
-measure Micros = record { places = 3; suffix = 0xC2 ∷ 0xB5 ∷ 115 ∷ [] }
-measure Nanos = record { places = 0; suffix = 110 ∷ 115 ∷ [] }
+measure Unit.Seconds = record { places = 9; suffix = 115 ∷ [] }
+measure Unit.Millis = record { places = 6; suffix = 109 ∷ 115 ∷ [] }
+measure Unit.Micros = record { places = 3; suffix = 0xC2 ∷ 0xB5 ∷ 115 ∷ [] }
+measure Unit.Nanos = record { places = 0; suffix = 110 ∷ 115 ∷ [] }
 
 abbrev pub suffixOf : Unit → List ℕ
 suffixOf u = measure u .suffix
 
 -- the largest unit that n nanoseconds reach, or nanoseconds
 unfoldable pub unitOf : ℕ → Unit
-unitOf n = cond (leb (10 ^ 9) n) Seconds (cond (leb (10 ^ 6) n) Millis (cond (leb (10 ^ 3) n) Micros Nanos))
+unitOf n = cond (leb (10 ^ 9) n) Unit.Seconds (cond (leb (10 ^ 6) n) Unit.Millis (cond (leb (10 ^ 3) n) Unit.Micros Unit.Nanos))
 
 -- the fewest fraction digits that show n over 10 ^ k exactly
 unfoldable pub exactPlaces : ℕ → ℕ → ℕ
@@ -37,8 +28,8 @@ exactPlaces k n = least (λ (p : ℕ). eqb (n * 10 ^ p % 10 ^ k) 0) k
 
 -- how many fraction digits are shown
 unfoldable pub placesOf : Count → ℕ → ℕ → ℕ
-placesOf Unset k n = exactPlaces k n
-placesOf (Set p) k n = p
+placesOf Count.Unset k n = exactPlaces k n
+placesOf (Count.Set p) k n = p
 
 -- n over 10 ^ k to p fraction digits: the nearest such number, half to even
 unfoldable pub shown : ℕ → ℕ → ℕ → List ℕ
@@ -58,8 +49,8 @@ characters (b ∷ l) = cond (leb 0x80 b && ltb b 0xC0) (characters l) (suc (char
 
 -- how many characters a text of so many lacks
 unfoldable pub lacking : Count → ℕ → ℕ
-lacking Unset c = 0
-lacking (Set w) c = w - c
+lacking Count.Unset c = 0
+lacking (Count.Set w) c = w - c
 
 -- how much of the padding goes in front
 unfoldable pub front : ℕ → ℕ → ℕ

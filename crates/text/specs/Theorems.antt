@@ -1,15 +1,7 @@
 -- What is true of every text. Each statement is a type; its proof stands in proofs/Theorems.antt. Assumes nothing.
-use Prim.Native.Nat.{ℕ, _+_, _-_, _*_, _^_, _≤_, _<_}
-use mathlib.Core.Path.{_≡_}
-use mathlib.Core.Bool.{true}
-use mathlib.Core.List.{List, [], _∷_}
-use lib.ListN.{length}
-use Rattle.duration.specs.Meaning.{most}
-use Rattle.text.specs.declared.Count.the-variants.{Unset, Set}
-use Rattle.text.specs.declared.Options.{Options}
+use Rattle.laws.specs.Names.{ℕ, _+_, _-_, _*_, _^_, _≤_, _<_, _≡_, true, List, [], _∷_, length, most}
 use Rattle.text.specs.Digits.{width, decimal}
-use Rattle.text.specs.Options.{accepts}
-use Rattle.text.specs.Text.{characters, text}
+use Rattle.text.specs.Text.{Count, Options, accepts, characters, text}
 
 -- the number that decimal digits show, behind those that showed a
 abbrev pub valueFrom : ℕ → List ℕ → ℕ
@@ -26,12 +18,12 @@ Longest = (n : ℕ) (o : Options) → n ≤ most → accepts o ≡ true → leng
 
 -- and MAX has so many, with a plus sign and 255 fraction digits
 abbrev pub Reached : Type 0
-Reached = length (text most (record { plus = 1; precision = Set 255; width = Unset; alignment = 0; fill = 0x20 })) ≡ 278
+Reached = length (text most (record { plus = 1; precision = Count.Set 255; width = Count.Unset; alignment = 0; fill = 0x20 })) ≡ 278
 
 -- a text has at least as many characters as its width
 abbrev pub Wide : Type 0
-Wide = (n : ℕ) (o : Options) (w : ℕ) → accepts o ≡ true → o .width ≡ Set w → w ≤ characters (text n o)
+Wide = (n : ℕ) (o : Options) (w : ℕ) → accepts o ≡ true → o .width ≡ Count.Set w → w ≤ characters (text n o)
 
 -- without a precision, and with no fill to hide it, a text has one value
 abbrev pub Distinct : Type 0
-Distinct = (m n : ℕ) (o : Options) → o .precision ≡ Unset → o .width ≡ Unset → text m o ≡ text n o → m ≡ n
+Distinct = (m n : ℕ) (o : Options) → o .precision ≡ Count.Unset → o .width ≡ Count.Unset → text m o ≡ text n o → m ≡ n
