@@ -1,7 +1,7 @@
 -- A duration's f64 seconds in units of 2 ^ -1074: the units of its seconds, of its nanoseconds and of their sum. Assumes nothing.
 use mathlib.Core.Path.{_≡_, sym, ap, _∙_, subst}
 use mathlib.Core.Bool.{false}
-use Prim.Native.Nat.{ℕ, _+_, _-_, _*_, _^_, _≤_, _<_}
+use Prim.Native.Nat.{ℕ, _+_, _*_, _^_, _≤_, _<_}
 use native.Mathlib.Nat.{le-trans, le-of-eq, mul-assoc, mul-right-comm, mul-le-mul-right, mul-pos, le-of-mul-le-mul-right, eq-of-mul-eq-mul-right, mul-one, add-mul}
 use native.Mathlib.Omega.{arith}
 use lib.Dec.{lit≤, lit<}

@@ -2,9 +2,8 @@
 use mathlib.Core.Path.{_≡_, refl, sym, ap, _∙_, subst}
 use mathlib.Core.Bool.{true, false, true≢false}
 use Prim.Native.Nat.{ℕ, zero, suc, _+_, _-_, _*_, _^_, _≤_, _<_}
-use native.Mathlib.Nat.{le-trans, le-of-eq, mul-right-comm, mul-sub, mul-le-mul-right, le-of-mul-le-mul-right, lt-of-lt-of-le, mul-assoc, mul-comm, mul-left-comm, mul-pos, mul-one, one-mul, zero-mul, add-mul, zero-lt-suc}
+use native.Mathlib.Nat.{le-trans, le-of-eq, mul-right-comm, mul-sub, mul-le-mul-right, le-of-mul-le-mul-right, lt-of-lt-of-le, mul-assoc, mul-comm, mul-left-comm, mul-pos, mul-one, zero-mul, add-mul, zero-lt-suc}
 use native.Mathlib.Omega.{arith}
-use lib.IntN.{pos}
 use lib.Dec.{eqb·suc-zero}
 use lib.Pow.{pow-add, pow-mono, shl-lt}
 use lib.Ieee.{Float, nan, inf, fin, Format, prec, emax, low, up, down, round, add, sum, sub, neg, mul, div, ofInt}
