@@ -1,5 +1,5 @@
 -- Laws of the order, of products and shares by a whole number, and of what saturates. Assumes nothing.
-use mathlib.Core.Path.{_≡_, refl, sym, ap, _∙_}
+use mathlib.Core.Path.{_≡_, sym, ap, _∙_}
 use Prim.Native.Nat.{ℕ, _+_, _*_, _-_, _/_, _%_, _^_, _≤_, _<_}
 use native.Mathlib.Nat.{add-mul-div-right, add-comm, mul-comm, div-add-mod', div-lt-iff-lt-mul, div-le-self, mul-le-mul, mod-lt, lt-of-le-of-lt, pos-of-ne-zero}
 use native.Mathlib.Omega.{arith}

@@ -1,7 +1,7 @@
 // The order of two valid durations, and what is between them.
 use duration::Duration;
 ghost use mathlib.Core.Path.{_≡_};
-ghost use Prim.Native.Nat.{_+_, _*_, _-_, _/_, _%_, _^_, _<_, _≤_, min, max};
+ghost use Prim.Native.Nat.{_+_, _-_, _/_, _%_, _^_, _<_, _≤_, min, max};
 ghost use lib.Dec.{ltb};
 ghost use Rattle.duration.specs.Meaning.{N, ofNanos};
 

@@ -3,7 +3,7 @@ use mathlib.Core.Path.{_≡_, refl, sym, ap, _∙_, subst}
 use mathlib.Core.Bool.{Bool, true, false, cond, true≢false}
 use mathlib.Core.Logic.{_⊎_, inl, inr}
 use Prim.Native.Nat.{ℕ, zero, suc, _+_, _-_, _*_, _^_, _≤_, _<_}
-use native.Mathlib.Nat.{le-trans, le-of-eq, eq-zero-or-pos, mul-assoc, mul-comm, mul-right-comm, mul-le-mul-right, mul-le-mul-left, le-of-mul-le-mul-right, mul-pos, mul-one, one-mul, zero-mul}
+use native.Mathlib.Nat.{le-trans, le-of-eq, eq-zero-or-pos, mul-assoc, mul-comm, mul-right-comm, mul-le-mul-right, mul-le-mul-left, le-of-mul-le-mul-right, mul-one, one-mul, zero-mul, le-add-right}
 use native.Mathlib.Omega.{arith}
 use lib.IntN.{pos}
 use lib.Dec.{eqb, eqb·suc-zero, lit≤, lit<}
@@ -12,7 +12,7 @@ use lib.Ieee.{Float, nan, inf, fin, Format, binary32, binary64, prec, emax, low,
 use lib.Ieee.Fits.{up-pos, down-pos}
 use lib.Ieee.Exact.{HasValue}
 use lib.Ieee.Positive.{num, den, value→cross}
-use Rattle.laws.proofs.Closest.{le-or-lt}
+use Rattle.laws.proofs.Closest.{le-or-lt, zero-of}
 use Rattle.duration.specs.declared.Duration.{Duration}
 use Rattle.duration.specs.Meaning.{N}
 use Rattle.seconds.specs.Out.{whole, secondsAs, millisAs, nanosAs, quotientAs}
@@ -25,20 +25,12 @@ use Rattle.bounds.proofs.Steps.{Tame, Rounds, doubled, of-whole, of-exa
 -- ---- k roundings that are at most one part in 2 ^ b
 lower : (n y H : ℕ) → n * H ≤ y * H + y → n * H ≤ y * H + n
 lower n y H h = elim (le-or-lt n y) [
-  | inl l ↦ le-trans (mul-le-mul-right H l) (grow (y * H) n)
+  | inl l ↦ le-trans (mul-le-mul-right H l) (le-add-right (y * H) n)
   | inr l ↦ small l h
 ]
   where
-    grow : (x n : ℕ) → x ≤ x + n
-    grow x n = omega arith
-
     small : y < n → n * H ≤ y * H + y → n * H ≤ y * H + n
     small l h = omega arith
-
--- a product that is zero, of a factor that is not
-nothing : (m l : ℕ) → 0 < l → m * l ≡ 0 → m ≡ 0
-nothing zero l L p = refl
-nothing (suc m) l L p = absurd (omega (arith, mul-pos {m = suc m} (omega arith) L))
 
 zeros : (a y l : ℕ) → a ≡ 0 → y ≤ a * l * 2 → y ≡ 0
 zeros a y l z h = omega (arith, ap (λ (z : ℕ). z * l) z, zero-mul l)
@@ -62,7 +54,7 @@ zero-or-large f x a c R t v h g = go (eq-zero-or-pos a)
     go : (a ≡ 0) ⊎ (0 < a) → (num x ≡ 0) ⊎ (den x ≤ num x * 2 ^ (emax f - 1))
     go (inl z) =
         let r : R * c ≡ 0 = zeros a (R * c) l z h in
-        inl (nothing (num x) l (pow-pos (low f)) (e ∙ ap (λ (z : ℕ). z * den x) (nothing R c (t .some) r) ∙ zero-mul (den x)))
+        inl (zero-of (num x) l (pow-pos (low f)) (e ∙ ap (λ (z : ℕ). z * den x) (zero-of R c (t .some) r) ∙ zero-mul (den x)))
     go (inr p) =
         inr
         (le-trans
@@ -197,13 +189,13 @@ by-zero f (fin false m e) n r = ap (λ (b : Bool). cond b nan (inf false)) (both
 
     exact-zero : m ≡ 0 → n ≡ 0
     exact-zero z =
-        let u : r .units ≡ 0 = nothing (r .units) (down e) (down-pos e) (sym (r .value .1) ∙ ap (λ (z : ℕ). z * up e * l) z ∙ ap (λ (z : ℕ). z * l) (zero-mul (up e)) ∙ zero-mul l) in
-        nothing n l (pow-pos (low f)) (zeros (r .units) (n * l) 1 u (doubled f 3 (n * l) (r .units * 1) (lit≤ tt) (r .near .under)))
+        let u : r .units ≡ 0 = zero-of (r .units) (down e) (down-pos e) (sym (r .value .1) ∙ ap (λ (z : ℕ). z * up e * l) z ∙ ap (λ (z : ℕ). z * l) (zero-mul (up e)) ∙ zero-mul l) in
+        zero-of n l (pow-pos (low f)) (zeros (r .units) (n * l) 1 u (doubled f 3 (n * l) (r .units * 1) (lit≤ tt) (r .near .under)))
 
     float-zero : n ≡ 0 → m ≡ 0
     float-zero z =
-        let u : r .units ≡ 0 = nothing (r .units) 1 (lit< tt) (zeros n (r .units * 1) l z (doubled f 3 (r .units * 1) (n * l) (lit≤ tt) (r .near .over))) in
-        nothing m (up e) (up-pos e) (nothing (m * up e) l (pow-pos (low f)) (r .value .1 ∙ ap (λ (z : ℕ). z * down e) u ∙ zero-mul (down e)))
+        let u : r .units ≡ 0 = zero-of (r .units) 1 (lit< tt) (zeros n (r .units * 1) l z (doubled f 3 (r .units * 1) (n * l) (lit≤ tt) (r .near .over))) in
+        zero-of m (up e) (up-pos e) (zero-of (m * up e) l (pow-pos (low f)) (r .value .1 ∙ ap (λ (z : ℕ). z * down e) u ∙ zero-mul (down e)))
 
 pub over-zero : OverZero
 unfolding quotientAs

@@ -1,8 +1,8 @@
 -- A duration's f64 seconds in units of 2 ^ -1074: the units of its seconds, of its nanoseconds and of their sum. Assumes nothing.
 use mathlib.Core.Path.{_≡_, sym, ap, _∙_, subst}
 use mathlib.Core.Bool.{false}
-use Prim.Native.Nat.{ℕ, _+_, _-_, _*_, _^_, _≤_, _<_}
-use native.Mathlib.Nat.{le-trans, le-of-eq, mul-assoc, mul-right-comm, mul-le-mul-right, mul-pos, le-of-mul-le-mul-right, eq-of-mul-eq-mul-right, mul-one, add-mul}
+use Prim.Native.Nat.{ℕ, _+_, _*_, _^_, _≤_, _<_}
+use native.Mathlib.Nat.{le-trans, le-of-eq, mul-right-comm, mul-le-mul-right, mul-pos, le-of-mul-le-mul-right, eq-of-mul-eq-mul-right, mul-one, add-mul}
 use native.Mathlib.Omega.{arith}
 use lib.Dec.{lit≤, lit<}
 use lib.Pow.{pow-pos}
@@ -16,7 +16,7 @@ use Rattle.seconds.specs.Out.{whole, secondsAs}
 use Rattle.seconds.proofs.Operations.{whole-round, whole-val, add-at, div-at}
 use Rattle.bounds.specs.Distance.{IsDuration}
 use Rattle.bounds.proofs.Grid.{Near, Moderate, near, double, value}
-use Rattle.bounds.proofs.Steps.{Tame, moderate}
+use Rattle.bounds.proofs.Steps.{Tame, moderate, sum-squared}
 
 -- ---- what is near n is near it in any measure
 module _ (p : ℕ) where
@@ -122,8 +122,5 @@ module _ (d : Duration) (good : IsDuration d) where
   unfolding secondsAs
   seconds-value =
       subst (λ (z : Float). HasValue z false R l)
-      (sym (add-at f L L (whole f s) (div f (whole f n) (whole f (10 ^ 9))) S Q secs-value part-value ∙ round-same f false (S * l + Q * l) (l * l) (S + Q) l (mul-pos L L) L (same S Q l)))
+      (sym (add-at f L L (whole f s) (div f (whole f n) (whole f (10 ^ 9))) S Q secs-value part-value ∙ round-same f false (S * l + Q * l) (l * l) (S + Q) l (mul-pos L L) L (sum-squared S Q l)))
       (value f (S + Q) l L sum-moderate)
-    where
-      same : (a b l : ℕ) → (a * l + b * l) * l ≡ (a + b) * (l * l)
-      same a b l = ap (λ (z : ℕ). z * l) (sym (add-mul a b l)) ∙ mul-assoc (a + b) l l

@@ -3,7 +3,7 @@ use mathlib.Core.Path.{_≡_, refl, sym, ap, _∙_, subst}
 use mathlib.Core.Bool.{false}
 use mathlib.Core.Logic.{_⊎_, inl, inr}
 use Prim.Native.Nat.{ℕ, _+_, _-_, _*_, _^_, _≤_, _<_}
-use native.Mathlib.Nat.{eq-zero-or-pos, mul-assoc, mul-comm, mul-left-comm, mul-right-comm, mul-mul-mul-comm, mul-le-mul-right, mul-le-mul-left, mul-pos, mul-one, one-mul, zero-mul, add-mul, add-sub-of-le}
+use native.Mathlib.Nat.{eq-zero-or-pos, mul-assoc, mul-right-comm, mul-mul-mul-comm, mul-le-mul-right, mul-le-mul-left, mul-pos, mul-one, one-mul, zero-mul, add-mul, add-sub-of-le}
 use native.Mathlib.Omega.{arith}
 use lib.Dec.{lit≤, lit<}
 use lib.Pow.{pow-pos}
@@ -12,7 +12,7 @@ use lib.Ieee.Exact.{HasValue}
 use lib.Ieee.Scale.{grid}
 use lib.Ieee.Positive.{first-pos}
 use Rattle.seconds.specs.Out.{whole}
-use Rattle.seconds.proofs.Operations.{whole-round, add-at, mul-at, div-at}
+use Rattle.seconds.proofs.Operations.{whole-round, crosswise, add-at, mul-at, div-at}
 use Rattle.bounds.proofs.Rounded.{AtMost, Rounded, most-more, most-within, none, more, scaled, cancelled, sums, products, quotients, through}
 use Rattle.bounds.proofs.Grid.{Moderate, near, value, once}
 
@@ -27,6 +27,9 @@ pub record Rounds (f : Format) (x : Float) (a c k : ℕ) : Type 0 where
   pub units : ℕ
   pub value : HasValue x false units (2 ^ low f)
   pub near : Rounded (2 ^ prec f) k (a * 2 ^ low f) (units * c)
+
+pub sum-squared : (a b l : ℕ) → (a * l + b * l) * l ≡ (a + b) * (l * l)
+sum-squared a b l = ap (λ (z : ℕ). z * l) (sym (add-mul a b l)) ∙ mul-assoc (a + b) l l
 
 -- seven roundings at most double a value
 pub doubled : (f : Format) (k a b : ℕ) → k ≤ 7 → AtMost (2 ^ prec f) k a b → a ≤ b * 2
@@ -103,11 +106,8 @@ module _ (f : Format) where
     pub of-sum : {a b c k : ℕ} → Rounds f x a c k → Rounds f y b c k → Tame (a + b) c → k ≤ 7 → Rounds f (add f x y) (a + b) c (k + 1)
     of-sum {a} {b} {c} {k} r s t K =
         subst (λ (z : Float). Rounds f z (a + b) c (k + 1)) (sym (add-at f L L x y (r .units) (s .units) (r .value) (s .value)))
-        (step (a + b) c (r .units * l + s .units * l) (l * l) k t (mul-pos L L) K (alike (scaled P k l (sums P k (r .near) (s .near))) (one a b l) (two (r .units) (s .units) c l)))
+        (step (a + b) c (r .units * l + s .units * l) (l * l) k t (mul-pos L L) K (alike (scaled P k l (sums P k (r .near) (s .near))) (sum-squared a b l) (two (r .units) (s .units) c l)))
       where
-        one : (a b l : ℕ) → (a * l + b * l) * l ≡ (a + b) * (l * l)
-        one a b l = ap (λ (z : ℕ). z * l) (sym (add-mul a b l)) ∙ mul-assoc (a + b) l l
-
         two : (x y c l : ℕ) → (x * c + y * c) * l ≡ (x * l + y * l) * c
         two x y c l = ap (λ (z : ℕ). z * l) (sym (add-mul x y c)) ∙ mul-right-comm (x + y) c l ∙ ap (λ (z : ℕ). z * c) (add-mul x y l)
 
@@ -119,11 +119,8 @@ module _ (f : Format) where
     pub of-quotient : {a b c d j k : ℕ} → 0 < b → Rounds f x a c j → Rounds f y b d k → Tame (a * d) (b * c) → k ≤ 7 → j + k ≤ 7 → Rounds f (div f x y) (a * d) (b * c) (j + k + 1)
     of-quotient {a} {b} {c} {d} {j} {k} B r s t K′ K =
         subst (λ (z : Float). Rounds f z (a * d) (b * c) (j + k + 1)) (sym (div-at f L L x y (r .units) (s .units) Y (r .value) (s .value)))
-        (step (a * d) (b * c) (r .units * l) (s .units * l) (j + k) t (mul-pos Y L) K (alike (quotients P j k (r .near) (s .near)) (swap a l (s .units) d) (swap (r .units) c b l)))
+        (step (a * d) (b * c) (r .units * l) (s .units * l) (j + k) t (mul-pos Y L) K (alike (quotients P j k (r .near) (s .near)) (crosswise a l (s .units) d) (crosswise (r .units) c b l)))
       where
-        swap : (x y z w : ℕ) → x * y * (z * w) ≡ x * w * (z * y)
-        swap x y z w = simp (mul-assoc, mul-comm, mul-left-comm)
-
         some : (n m : ℕ) → 0 < n → n ≤ m * 2 → 0 < m
         some n m h g = omega arith
 

@@ -3,7 +3,7 @@ use mathlib.Core.Path.{_≡_, refl, sym, ap, _∙_, subst}
 use mathlib.Core.Bool.{true, false, true≢false}
 use mathlib.Core.Logic.{inl, inr}
 use Prim.Native.Nat.{ℕ, _+_, _-_, _*_, _/_, _%_, _^_, _≤_, _<_}
-use native.Mathlib.Nat.{le-trans, le-of-eq, lt-of-lt-of-le, lt-of-le-of-lt, mul-assoc, mul-comm, mul-left-comm, mul-right-comm, mul-le-mul-left, mul-le-mul-right, mul-lt-mul-of-pos-right, mul-pos, le-of-mul-le-mul-right, zero-mul, add-mul, suc-mul, mul-add, mul-div-cancel, div-add-mod'}
+use native.Mathlib.Nat.{le-trans, le-of-eq, lt-of-lt-of-le, lt-of-le-of-lt, mul-assoc, mul-comm, mul-left-comm, mul-right-comm, mul-le-mul-left, mul-le-mul-right, mul-lt-mul-of-pos-right, mul-pos, le-of-mul-le-mul-right, zero-mul, add-mul, suc-mul, mul-add, mul-div-cancel, div-add-mod', mul-mul-mul-comm, le-refl, add-lt-add-of-le-of-lt}
 use native.Mathlib.Omega.{arith}
 use lib.IntN.{pos}
 use lib.Dec.{lit≤, lit<}
@@ -22,7 +22,7 @@ use Rattle.seconds.specs.Out.{secondsAs, whole}
 use Rattle.seconds.specs.From.{ofFraction, fromSeconds}
 use Rattle.seconds.proofs.Fraction.{over, within}
 use Rattle.seconds.proofs.Fields.{size-is, not-below}
-use Rattle.seconds.proofs.Operations.{whole-val}
+use Rattle.seconds.proofs.Operations.{whole-val, crosswise}
 use Rattle.bounds.specs.Distance.{apart, IsDuration}
 use Rattle.bounds.specs.Trip.{Back, EveryTrip}
 use Rattle.bounds.proofs.Rounded.{apart-le}
@@ -36,11 +36,8 @@ upper y t x a b d B q h k =
     le-of-mul-le-mul-right {k = b * b}
     (le-trans (le-of-eq (simp (mul-assoc, mul-comm, mul-left-comm)))
     (le-trans (mul-le-mul-right (b * a) h)
-    (le-trans (le-of-eq (swap t d b a)) (le-trans (mul-le-mul-right (d * a) k) (mul-le-mul-left (x * d) q)))))
+    (le-trans (le-of-eq (mul-mul-mul-comm t d b a)) (le-trans (mul-le-mul-right (d * a) k) (mul-le-mul-left (x * d) q)))))
     (mul-pos B B)
-  where
-    swap : (t d b a : ℕ) → t * d * (b * a) ≡ t * b * (d * a)
-    swap t d b a = simp (mul-assoc, mul-comm, mul-left-comm)
 
 lower : (x t y a b z : ℕ) → 0 < b → z * (b * b) ≤ a * a * a → x * a ≤ t * b → t * a ≤ y * b → x * z ≤ y * a
 lower x t y a b z B q h k =
@@ -49,17 +46,11 @@ lower x t y a b z B q h k =
     (le-trans (mul-le-mul-left x q)
     (le-trans (le-of-eq (one x a))
     (le-trans (mul-le-mul-right (a * a) h)
-    (le-trans (le-of-eq (two t b a)) (le-trans (mul-le-mul-right (b * a) k) (le-of-eq (three y b a))))))))
+    (le-trans (le-of-eq (mul-mul-mul-comm t b a a)) (le-trans (mul-le-mul-right (b * a) k) (le-of-eq (crosswise y b b a))))))))
     (mul-pos B B)
   where
     one : (x a : ℕ) → x * (a * a * a) ≡ x * a * (a * a)
     one x a = simp (mul-assoc, mul-comm, mul-left-comm)
-
-    two : (t b a : ℕ) → t * b * (a * a) ≡ t * a * (b * a)
-    two t b a = simp (mul-assoc, mul-comm, mul-left-comm)
-
-    three : (y b a : ℕ) → y * b * (b * a) ≡ y * a * (b * b)
-    three y b a = simp (mul-assoc, mul-comm, mul-left-comm)
 
 twice : (x t y : ℕ) → Near (2 ^ 53) x t → Near (2 ^ 53) t y → (y * 2 ^ 52 ≤ x * 2 ^ 52 + x) × (x * 2 ^ 52 ≤ y * 2 ^ 52 + x)
 twice x t y h k =
@@ -249,10 +240,7 @@ module _ (d : Duration) (good : IsDuration d) where
     S-is = units-are (whole binary64 (d .secs)) (d .secs) (S d good) u (whole-val binary64 (d .secs) (omega arith)) (secs-value d good)
 
     sum-lt : S d good + Q d good < 2 ^ 1097
-    sum-lt = rw S-is (lt-of-lt-of-le (go (d .secs * u) (Q d good) u Q-lt) (le-trans (le-of-eq (sym (suc-mul (d .secs) u))) (mul-le-mul-right u short)))
-      where
-        go : (a q l : ℕ) → q < l → a + q < a + l
-        go a q l h = omega arith
+    sum-lt = rw S-is (lt-of-lt-of-le (add-lt-add-of-le-of-lt (le-refl (d .secs * u)) Q-lt) (le-trans (le-of-eq (sym (suc-mul (d .secs) u))) (mul-le-mul-right u short)))
 
     R-off : (r * 2 ≤ (S d good + Q d good) * 2 + g) × ((S d good + Q d good) * 2 ≤ r * 2 + g)
     R-off =

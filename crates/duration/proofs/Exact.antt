@@ -5,7 +5,6 @@ use native.Mathlib.Omega.{arith}
 use borrow.Author.Tests.{le-leb, lt-leb}
 use Rattle.refusal.specs.declared.Refusal.the-variants.{Overflow}
 use Rattle.duration.specs.declared.Duration.{Duration}
-use Rattle.duration.specs.declared.Answer.{Answer}
 use Rattle.duration.specs.declared.Answer.the-variants.{Is, Refused}
 use Rattle.duration.specs.Meaning.{most, ofNanos, exact}
 

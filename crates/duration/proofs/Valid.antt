@@ -1,5 +1,5 @@
 -- Whether a pair is a duration, from its nanoseconds, and an answer that is chosen by it. Assumes nothing.
-use mathlib.Core.Path.{_≡_, refl}
+use mathlib.Core.Path.{_≡_}
 use mathlib.Core.Bool.{true, false, cond, _&&_}
 use Prim.Native.Nat.{_^_, _≤_, _<_}
 use borrow.Author.Tests.{lt-ltb, le-ltb}

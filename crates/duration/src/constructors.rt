@@ -4,7 +4,7 @@ use crate::Duration;
 use refusal::Refusal;
 use wide::Wide;
 ghost use mathlib.Core.Path.{_≡_};
-ghost use Prim.Native.Nat.{_+_, _*_, _^_, _<_, _≤_};
+ghost use Prim.Native.Nat.{_+_, _*_, _^_, _<_};
 ghost use Rattle.wide.specs.Wide.{wide};
 ghost use Rattle.duration.specs.Meaning.{ofNanos, exact};
 ghost use Rattle.duration.specs.Units.{fromUnit};

@@ -4,7 +4,7 @@ use mathlib.Core.Path.{_≡_, refl, sym, ap, _∙_, subst}
 use mathlib.Core.Bool.{Bool, true, false, not}
 use mathlib.Core.Logic.{_⊎_, inl, inr}
 use Prim.Native.Nat.{ℕ, suc, _+_, _-_, _*_, _/_, _%_, _≤_, _<_, compare, Ordering, Ordering·lt, Ordering·eq, Ordering·gt}
-use native.Mathlib.Nat.{one-mul, add-mul, suc-mul, zero-add, le-trans, le-antisymm, le-of-suc-le-suc, lt-of-mul-lt-mul-right, add-comm, mul-comm, mod-lt, div-add-mod', div-eq-of-lt, div-eq-of-lt-le, eq-zero-or-pos, div-div-eq-div-mul, add-mul-div-right, add-mul-mod-self-right, div-lt-iff-lt-mul, mul-lt-mul-of-pos-right, mul-le-mul-right}
+use native.Mathlib.Nat.{one-mul, add-mul, suc-mul, zero-add, le-trans, le-antisymm, le-of-suc-le-suc, lt-of-mul-lt-mul-right, add-comm, mul-comm, mod-lt, div-add-mod', div-eq-of-lt, div-eq-of-lt-le, eq-zero-or-pos, div-div-eq-div-mul, add-mul-div-right, add-mul-mod-self-right, div-lt-iff-lt-mul, mul-lt-mul-of-pos-right, mul-le-mul-right, eq-of-mul-eq-mul-right, zero-mul}
 use native.Mathlib.Omega.{arith}
 use lib.Dec.{lit≤, T, leb, isLe, isEq, eqb, leb→le, nleb→lt, eqb→eq, eqb-refl}
 use lib.Arith.{lt-of-le-ne, mod-mul, digits-lt, digits-div, digits-mod}
@@ -18,6 +18,10 @@ le-or-lt a b = go (leb a b) (leb→le a b) (nleb→lt a b)
     go : (t : Bool) → (T t → a ≤ b) → (T (not t) → b < a) → (a ≤ b) ⊎ (b < a)
     go true h k = inl (h tt)
     go false h k = inr (k tt)
+
+-- a product that is zero, of a factor that is not
+pub zero-of : (z c : ℕ) → 0 < c → z * c ≡ 0 → z ≡ 0
+zero-of z c C e = eq-of-mul-eq-mul-right c C z 0 (e ∙ sym (zero-mul c))
 
 -- ---- what `compare` says
 abbrev Cmp : Ordering → ℕ → ℕ → Type 0

@@ -1,6 +1,6 @@
 -- Numbers that stand as little-endian bytes, one after the other. Assumes nothing.
 use mathlib.Core.Path.{_≡_, refl, sym, ap, _∙_}
-use mathlib.Core.List.{List, [], _∷_, _++_}
+use mathlib.Core.List.{List, [], _∷_}
 use Prim.Native.Nat.{ℕ, zero, suc, _+_, _*_, _-_, _/_, _%_, _^_, _≤_, _<_}
 use native.Mathlib.Nat.{zero-mul, suc-mul, add-comm, pow-suc, div-lt-iff-lt-mul, le-div-iff-mul-le, mul-div-cancel, mul-mod-left, add-mul, mul-le-mul-right}
 use native.Mathlib.Numerals.{add-one}

@@ -6,17 +6,13 @@ use native.Mathlib.Nat.{add-suc, suc-add, add-zero}
 use native.Mathlib.Numerals.{add-one}
 use native.Mathlib.Omega.{arith}
 use lib.ListN.{length, take, drop, set, getD, length-append, length-replicate}
-use lib.Seq.{sets, sets-eq, length-sets, drop-cons, set-comm, drop-length}
+use lib.Seq.{sets, sets-eq, drop-cons, set-comm, drop-length}
 use Rattle.laws.specs.Written.{splice, times, Wrote}
 
 -- the elements before, the written list, the elements after
 pub splice-is : (xs : List ℕ) (i : ℕ) (ys : List ℕ) → i + length ys ≤ length xs → splice xs i ys ≡ take i xs ++ ys ++ drop (i + length ys) xs
 unfolding splice
 splice-is xs i ys h = sets-eq ys xs i h
-
-pub length-splice : (xs : List ℕ) (i : ℕ) (ys : List ℕ) → length (splice xs i ys) ≡ length xs
-unfolding splice
-length-splice xs i ys = length-sets xs i ys
 
 pub splice-none : (xs : List ℕ) (i : ℕ) → splice xs i [] ≡ xs
 unfolding splice

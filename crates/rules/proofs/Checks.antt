@@ -6,6 +6,7 @@ use Prim.Native.Nat.{ℕ}
 use native.Mathlib.Omega.{arith}
 use borrow.Author.Tests.{eqb-false, ne-eqb, not-true}
 use lib.Dec.{eqb}
+use Rattle.text.proofs.Accepts.{both}
 use Rattle.rules.specs.Refusals.{Grounds, any, holds, order, firstOf, Exactly, Answered}
 
 -- ---- a list of statements, one by one
@@ -20,10 +21,6 @@ differ h k = let z : _≡_ {A = ℕ} 0 1 = cc in omega arith
 pub neither : (a b : Bool) → a || b ≡ false → (a ≡ false) × (b ≡ false)
 neither true b h = absurd (differ refl h)
 neither false b h = (refl, h)
-
-both : (a b : Bool) → a && b ≡ true → (a ≡ true) × (b ≡ true)
-both true b h = (refl, h)
-both false b h = absurd (differ h refl)
 
 -- ---- a number stands once in a list
 once : List ℕ → Bool

@@ -4,7 +4,6 @@ use crate::reply::send;
 use duration::Answer;
 use duration::constructors;
 use wide::Wide;
-ghost use mathlib.Core.Path.{_≡_};
 ghost use Prim.Native.Nat.{_+_, _*_, _^_};
 ghost use Rattle.wide.specs.Wide.{wide};
 ghost use Rattle.duration.specs.Meaning.{exact, most};

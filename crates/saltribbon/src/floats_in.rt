@@ -3,7 +3,6 @@ use crate::reply::of_duration;
 use crate::reply::send;
 use duration::Duration;
 use seconds::from;
-ghost use mathlib.Core.Path.{_≡_};
 ghost use Rattle.seconds.specs.From.{fromSeconds, timesFloat, overFloat};
 ghost use Rattle.saltribbon.specs.Reply.{Replied, ofDuration};
 

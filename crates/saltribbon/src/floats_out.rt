@@ -4,7 +4,6 @@ use crate::reply::of_f64;
 use crate::reply::send;
 use duration::Duration;
 use seconds::out;
-ghost use mathlib.Core.Path.{_≡_};
 ghost use mathlib.Core.Bool.{_&&_};
 ghost use lib.Ieee.{binary32, binary64};
 ghost use Rattle.duration.specs.Meaning.{valid};

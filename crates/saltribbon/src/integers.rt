@@ -3,7 +3,6 @@ use crate::reply::of_duration;
 use crate::reply::of_wide;
 use crate::reply::send;
 use duration::Duration;
-ghost use mathlib.Core.Path.{_≡_};
 ghost use Rattle.arithmetic.specs.Arithmetic.{added, subtracted, apart, times, shared, floorOf, ceilOf, saturated};
 ghost use Rattle.saltribbon.specs.Reply.{Replied, ofDuration, ofWide};
 

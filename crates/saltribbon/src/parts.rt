@@ -7,7 +7,6 @@ use crate::reply::of_word;
 use crate::reply::send;
 use duration::Duration;
 use duration::parts;
-ghost use mathlib.Core.Path.{_≡_};
 ghost use Prim.Native.Nat.{_^_};
 ghost use Rattle.duration.specs.Parts.{asSecs, subsec, count, isZero, compared};
 ghost use Rattle.saltribbon.specs.Reply.{Replied, ofWide, ofWord, ofPart, ofFlag, ofOrder};

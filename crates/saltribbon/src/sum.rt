@@ -1,7 +1,6 @@
 // The C function of the sum: rows as bytes, eight of seconds and four of nanoseconds for each, the lowest first.
 use crate::reply::of_sum;
 use crate::reply::send;
-ghost use mathlib.Core.Path.{_≡_};
 ghost use Rattle.sums.specs.Sum.{sumBytes};
 ghost use Rattle.saltribbon.specs.Reply.{Replied, ofSum};
 

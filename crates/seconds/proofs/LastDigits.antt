@@ -3,7 +3,7 @@ use mathlib.Core.Path.{_≡_, sym, ap, _∙_}
 use mathlib.Core.Bool.{false}
 use mathlib.Core.Logic.{inl, inr}
 use Prim.Native.Nat.{ℕ, zero, suc, _+_, _-_, _*_, _/_, _%_, _^_, _≤_, _<_, compare}
-use native.Mathlib.Nat.{le-trans, le-of-eq, le-antisymm, lt-of-lt-of-le, not-le-of-lt, one-mul, mul-assoc, mul-right-comm, mul-pos, mul-le-mul-right, add-mul, suc-mul, div-one, pow-succ'}
+use native.Mathlib.Nat.{le-trans, le-of-eq, le-antisymm, lt-of-lt-of-le, not-le-of-lt, one-mul, mul-assoc, mul-right-comm, mul-pos, mul-le-mul-right, add-mul, suc-mul, div-one, pow-succ', le-refl, le-add-right, add-lt-add-of-le-of-lt}
 use native.Mathlib.Omega.{arith}
 use lib.Pow.{pow-pos, pow-add, pow-mono, shl-lt}
 use lib.Ieee.{Format, prec, low, size, units, nearest}
@@ -54,17 +54,11 @@ size-block a b j A B = le-antisymm (size-le (a * 2 ^ j + b) (size a + j) high) (
     back : (z : ℕ) → 0 < z → z - 1 < z
     back z h = omega arith
 
-    grow : (x b : ℕ) → x ≤ x + b
-    grow x b = omega arith
-
     low′ : 2 ^ (size a - 1 + j) ≤ a * 2 ^ j + b
-    low′ = le-trans (le-of-eq (pow-add 2 (size a - 1) j)) (le-trans (mul-le-mul-right (2 ^ j) (size-reaches a (size a - 1) (back (size a) A))) (grow (a * 2 ^ j) b))
-
-    next : (x b p : ℕ) → b < p → x + b < x + p
-    next x b p h = omega arith
+    low′ = le-trans (le-of-eq (pow-add 2 (size a - 1) j)) (le-trans (mul-le-mul-right (2 ^ j) (size-reaches a (size a - 1) (back (size a) A))) (le-add-right (a * 2 ^ j) b))
 
     high : a * 2 ^ j + b < 2 ^ (size a + j)
-    high = lt-of-lt-of-le (next (a * 2 ^ j) b (2 ^ j) B) (le-trans (le-of-eq (sym (suc-mul a (2 ^ j)))) (le-trans (mul-le-mul-right (2 ^ j) (size-lt a)) (le-of-eq (sym (pow-add 2 (size a) j)))))
+    high = lt-of-lt-of-le (add-lt-add-of-le-of-lt (le-refl (a * 2 ^ j)) B) (le-trans (le-of-eq (sym (suc-mul a (2 ^ j)))) (le-trans (mul-le-mul-right (2 ^ j) (size-lt a)) (le-of-eq (sym (pow-add 2 (size a) j)))))
 
 even : (j : ℕ) → 0 < j → 2 ^ j % 2 ≡ 0
 even zero h = absurd (omega arith)

@@ -2,9 +2,8 @@
 use mathlib.Core.Path.{_≡_, refl, sym, ap, _∙_, subst}
 use mathlib.Core.Bool.{true, false, true≢false}
 use Prim.Native.Nat.{ℕ, zero, suc, _+_, _-_, _*_, _^_, _≤_, _<_}
-use native.Mathlib.Nat.{le-trans, le-of-eq, mul-right-comm, mul-sub, mul-le-mul-right, le-of-mul-le-mul-right, lt-of-lt-of-le, mul-assoc, mul-comm, mul-left-comm, mul-pos, mul-one, one-mul, zero-mul, add-mul, zero-lt-suc}
+use native.Mathlib.Nat.{le-trans, le-of-eq, mul-right-comm, mul-sub, mul-le-mul-right, le-of-mul-le-mul-right, lt-of-lt-of-le, mul-assoc, mul-comm, mul-left-comm, mul-pos, mul-one, zero-mul, add-mul, zero-lt-suc, mul-mul-mul-comm}
 use native.Mathlib.Omega.{arith}
-use lib.IntN.{pos}
 use lib.Dec.{eqb·suc-zero}
 use lib.Pow.{pow-add, pow-mono, shl-lt}
 use lib.Ieee.{Float, nan, inf, fin, Format, prec, emax, low, up, down, round, add, sum, sub, neg, mul, div, ofInt}
@@ -22,6 +21,9 @@ whole-round f n = refl
 
 pub whole-val : (f : Format) (n : ℕ) → n ≤ 2 ^ prec f → HasValue (whole f n) false n 1
 whole-val f n h = subst (λ (z : Float). HasValue z false n 1) (sym (whole-round f n)) (round-whole f false n h)
+
+pub crosswise : (x y z w : ℕ) → x * y * (z * w) ≡ x * w * (z * y)
+crosswise x y z w = simp (mul-assoc, mul-comm, mul-left-comm)
 
 -- ---- x is a / c and y is b / d
 module _ (f : Format) {c d : ℕ} (C : 0 < c) (D : 0 < d) where
@@ -57,11 +59,8 @@ module _ (f : Format) {c d : ℕ} (C : 0 < c) (D : 0 < d) where
   mul-at (fin false m e) (fin false n g) a b h k =
       round-same f false (m * up e * (n * up g)) (down e * down g) (a * b) (c * d) (mul-pos (down-pos e) (down-pos g)) (mul-pos C D) (go (m * up e) (down e) (n * up g) (down g) (h .1) (k .1))
     where
-      swap : (x y z w : ℕ) → x * y * (z * w) ≡ x * z * (y * w)
-      swap x y z w = simp (mul-assoc, mul-comm, mul-left-comm)
-
       go : (m e n g : ℕ) → m * c ≡ a * e → n * d ≡ b * g → m * n * (c * d) ≡ a * b * (e * g)
-      go m e n g p q = swap m n c d ∙ ap (λ (z : ℕ). z * (n * d)) p ∙ ap (λ (z : ℕ). a * e * z) q ∙ swap a e b g
+      go m e n g p q = mul-mul-mul-comm m n c d ∙ ap (λ (z : ℕ). z * (n * d)) p ∙ ap (λ (z : ℕ). a * e * z) q ∙ mul-mul-mul-comm a e b g
 
   pub div-at : (x y : Float) (a b : ℕ) → 0 < b → HasValue x false a c → HasValue y false b d → div f x y ≡ round f false (a * d) (b * c)
   unfolding div
@@ -79,11 +78,8 @@ module _ (f : Format) {c d : ℕ} (C : 0 < c) (D : 0 < d) where
       rw (eqb·suc-zero n)
       (round-same f false (m * up e * down g) (suc n * up g * down e) (a * d) (b * c) (mul-pos (mul-pos (zero-lt-suc n) (up-pos g)) (down-pos e)) (mul-pos B C) (go (m * up e) (down e) (suc n * up g) (down g) (h .1) (k .1)))
     where
-      swap : (x y z w : ℕ) → x * y * (z * w) ≡ x * w * (z * y)
-      swap x y z w = simp (mul-assoc, mul-comm, mul-left-comm)
-
       go : (m e n g : ℕ) → m * c ≡ a * e → n * d ≡ b * g → m * g * (b * c) ≡ a * d * (n * e)
-      go m e n g p q = swap m g b c ∙ ap (λ (z : ℕ). z * (b * g)) p ∙ ap (λ (z : ℕ). a * e * z) (sym q) ∙ swap a e n d
+      go m e n g p q = crosswise m g b c ∙ ap (λ (z : ℕ). z * (b * g)) p ∙ ap (λ (z : ℕ). a * e * z) (sym q) ∙ crosswise a e n d
 
 -- ---- the difference, where both have one denominator
 pub sub-at : (f : Format) (x y : Float) (a b c : ℕ) → 0 < c → b ≤ a → HasValue x false a c → HasValue y false b c → sub f x y ≡ round f false (a - b) c

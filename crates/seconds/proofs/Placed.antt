@@ -1,7 +1,7 @@
 -- A whole number as the digits of a float's pattern, with the float that has none of them taken off: one law for both widths. Assumes nothing.
 use mathlib.Core.Path.{_≡_, sym, ap, _∙_, subst}
 use mathlib.Core.Bool.{Bool, false, not}
-use Prim.Native.Nat.{ℕ, suc, _+_, _-_, _*_, _/_, _%_, _^_, _≤_, _<_}
+use Prim.Native.Nat.{ℕ, suc, _+_, _-_, _*_, _^_, _≤_, _<_}
 use native.Mathlib.Nat.{le-trans, le-of-eq, le-add-right, lt-irrefl, mul-comm, mul-assoc, mul-le-mul-right, mul-one, add-mul, add-zero, add-sub-cancel-left, mod-eq-of-lt, suc-mul}
 use native.Mathlib.Omega.{arith}
 use lib.Dec.{T, ltb}

@@ -1,18 +1,15 @@
 -- The ways of `rounded`, `nanos` and `near`: a fraction of a second in two words, rounded by one sum. Assumes nothing.
 use mathlib.Core.Path.{_≡_, refl, sym, ap, _∙_, subst}
 use Prim.Native.Nat.{ℕ, zero, suc, _+_, _-_, _*_, _/_, _%_, _^_, _≤_, _<_}
-use native.Mathlib.Nat.{one-mul, mul-assoc, add-zero, mul-mod-left, mul-comm, mul-right-comm, pow-succ'}
+use native.Mathlib.Nat.{mul-assoc, add-zero, mul-mod-left, mul-comm, mul-right-comm, pow-succ'}
 use native.Mathlib.Omega.{arith}
 use lib.Bits.{bitOr}
-use lib.Dec.{lit<, lit≤}
-use lib.Pow.{pow-pos, pow-add, shl-exact, shl-shr, mod-pow-add}
+use lib.Dec.{lit≤}
+use lib.Pow.{pow-pos, pow-add, shl-shr, mod-pow-add}
 use lib.Ieee.Nearest.{closest, closest-same}
 use Rattle.laws.proofs.Closest.{by-sum}
 
--- ---- powers of two: one shifted, and half of one
-pub one-shl : (k : ℕ) → k < 64 → 1 * 2 ^ k % 2 ^ 64 ≡ 2 ^ k
-one-shl k h = shl-exact 1 k 64 (lit< tt) (omega arith) ∙ one-mul (2 ^ k)
-
+-- ---- half of a power of two
 pub halves : (j : ℕ) → 0 < j → 2 ^ (j - 1) + 2 ^ (j - 1) ≡ 2 ^ j
 halves zero h = absurd (omega arith)
 halves (suc i) h = rw (pow-succ' 2 i, back) (omega arith)

@@ -1,12 +1,11 @@
 -- Laws of rows, of their total, and of whether all are durations. Assumes nothing.
 use mathlib.Core.Path.{_≡_, refl, sym, ap, _∙_}
-use mathlib.Core.Bool.{Bool, true, false, _&&_, and-assoc}
+use mathlib.Core.Bool.{Bool, _&&_, and-assoc}
 use mathlib.Core.List.{List, [], _∷_, _++_}
 use Prim.Native.Nat.{ℕ, zero, suc, _+_, _<_}
 use native.Mathlib.Numerals.{add-one}
 use native.Mathlib.Omega.{arith}
 use lib.ListN.{length, take, drop, getD}
-use lib.Seq.{take-nil}
 use Rattle.duration.specs.declared.Duration.{Duration}
 use Rattle.duration.specs.Meaning.{valid}
 use Rattle.sums.specs.Sum.{rows, total, allValid}

@@ -54,7 +54,7 @@ pub record Accepted (o : Options) : Type 0 where
   pub precision : within (o .precision) ≡ true
   pub width : within (o .width) ≡ true
 
-both : (a b : Bool) → a && b ≡ true → (a ≡ true) × (b ≡ true)
+pub both : (a b : Bool) → a && b ≡ true → (a ≡ true) × (b ≡ true)
 both true b h = (refl, h)
 both false b h = let z : _≡_ {A = ℕ} 0 1 = cc in absurd (omega arith)
 

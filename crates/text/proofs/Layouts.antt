@@ -10,7 +10,6 @@ use lib.Ieee.Nearest.{closest, closest-same}
 use lib.ListN.{take}
 use lib.Seq.{take-all}
 use Rattle.laws.specs.Written.{times}
-use Rattle.laws.proofs.Written.{nothing}
 use Rattle.text.specs.declared.Count.{Count}
 use Rattle.text.specs.declared.Count.the-variants.{Unset, Set}
 use Rattle.text.specs.declared.fraction.Fraction.{Fraction}

@@ -9,7 +9,7 @@ use lib.Dec.{lit<, lit≤}
 use lib.ListN.{length, take, length-append}
 use lib.Seq.{length-take-le}
 use Rattle.laws.specs.Written.{times}
-use Rattle.laws.proofs.Written.{length-times, nothing}
+use Rattle.laws.proofs.Written.{length-times}
 use Rattle.text.specs.declared.number.Number.{Number}
 use Rattle.text.specs.Digits.{lastDigits, width, decimal, pointed}
 use Rattle.text.specs.Parts.{laid, Whole}

@@ -1,12 +1,13 @@
 -- How many fraction digits show a number exactly. Assumes nothing.
 use mathlib.Core.Path.{_≡_, sym, ap, _∙_}
 use Prim.Native.Nat.{ℕ, zero, suc, _+_, _-_, _*_, _/_, _%_, _^_, _≤_, _<_}
-use native.Mathlib.Nat.{mul-comm, mul-assoc, mul-div-cancel, mul-mod-left, le-mul-of-pos-right, pow-suc, add-zero, zero-mul}
+use native.Mathlib.Nat.{mul-comm, mul-assoc, mul-div-cancel, mul-mod-left, pow-suc, add-zero, zero-mul}
 use native.Mathlib.Omega.{arith}
 use borrow.Author.Tests.{eq-eqb, ne-eqb, eqb-true, eqb-false}
-use lib.Arith.{mod-mul, le-zero}
+use lib.Arith.{mod-mul}
 use lib.Dec.{eqb}
 use lib.Pow.{pow-add}
+use Rattle.laws.proofs.Closest.{zero-of}
 use Rattle.text.specs.Text.{exactPlaces}
 use Rattle.text.proofs.Leasts.{least-is, least-at, least-before}
 use Rattle.text.proofs.Decimals.{ten-pos}
@@ -18,9 +19,6 @@ scaled-mod x m c M C =
     ∙ ap (λ (z : ℕ). z % m * c + x * c % c) (mul-div-cancel x C)
     ∙ ap (λ (z : ℕ). x % m * c + z) (mul-mod-left x c)
     ∙ add-zero (x % m * c)
-
-pub zero-of : (z c : ℕ) → 0 < c → z * c ≡ 0 → z ≡ 0
-zero-of z c C e = le-zero (omega (arith, le-mul-of-pos-right z C))
 
 low-zero : (x a b : ℕ) → 0 < a → 0 < b → x % (a * b) ≡ 0 → x % b ≡ 0
 low-zero x a b A B e = omega (arith, mod-mul x A B)

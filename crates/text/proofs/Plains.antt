@@ -76,7 +76,3 @@ plain-is n o {s} {m} a l h = record {
         ap (λ (y : ℕ). shown 9 y (placesOf (o .precision) 9 y)) (a .value)
         ∙ ap (shown 9 (n * 10 ^ (9 - k))) (of-scaled k n (places-nine (s .unit)) (o .precision))
         ∙ shown-scaled k n (places-nine (s .unit)) (placesOf (o .precision) k n)
-
--- laid out again under its own bytes
-pub itself : {t : List ℕ} {p : Plain} → Plains t p → Plains (emitted p) p
-itself a = record { bytes = refl; plus = a .plus; ascii = a .ascii; sound = a .sound }

@@ -7,13 +7,14 @@ use native.Mathlib.Omega.{arith}
 use borrow.Author.Tests.{eq-eqb, ne-eqb, eqb-true, eqb-false}
 use lib.Dec.{lit<, eqb}
 use lib.Ieee.Nearest.{closest-same}
+use Rattle.laws.proofs.Closest.{zero-of}
 use Rattle.text.specs.declared.Count.{Count}
 use Rattle.text.specs.declared.Count.the-variants.{Unset, Set}
 use Rattle.text.specs.Digits.{least, numeral}
 use Rattle.text.specs.Text.{exactPlaces, placesOf, shown}
 use Rattle.text.proofs.Leasts.{least-bound}
 use Rattle.text.proofs.Decimals.{ten-pos}
-use Rattle.text.proofs.Places.{tens, scaled-mod, zero-of}
+use Rattle.text.proofs.Places.{tens, scaled-mod}
 
 module _ (k n : ℕ) (h : k ≤ 9) where
   sum : k + (9 - k) ≡ 9

@@ -1,8 +1,8 @@
--- The laws of this crate. `Laws` and `Digits` are what other crates' proofs cite, and the rest are for the functions here.
+-- The laws of this crate. `Laws`, `Digits` and `Shifts` are what other crates' proofs cite, and the rest are for the functions here.
 pub mod Laws
 pub mod Digits
+pub mod Shifts
 mod Flags
 mod Products
-mod Shifts
 mod Estimate
 mod Quotient

@@ -1,6 +1,6 @@
 -- `arithmetic::saturate` meets its contract. Assumes nothing.
 use Rattle.arithmetic.proofs.Integers.{held-high, held-low, not-held}
-use mathlib.Core.Path.{sym, ap, _∙_}
+use mathlib.Core.Path.{sym, ap}
 use native.Mathlib.Omega.{arith}
 use Rattle.arithmetic.specs.Arithmetic.{saturated}
 use borrow.Author.Needs.{needs}

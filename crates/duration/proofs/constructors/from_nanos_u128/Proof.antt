@@ -1,5 +1,4 @@
 -- `duration::constructors::from_nanos_u128` meets its contract. Assumes nothing.
-use Prim.Native.Nat.{_^_}
 use native.Mathlib.Omega.{arith}
 use Rattle.wide.specs.Wide.{wide}
 use Rattle.duration.proofs.Exact.{exact-is, exact-over}

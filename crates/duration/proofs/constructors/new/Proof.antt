@@ -1,5 +1,4 @@
 -- `duration::constructors::new` meets its contract. Assumes nothing.
-use Prim.Native.Nat.{_+_}
 use native.Mathlib.Omega.{arith}
 use Rattle.duration.proofs.Exact.{exact-is, exact-over}
 use borrow.Author.Needs.{needs}

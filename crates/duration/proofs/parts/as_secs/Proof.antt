@@ -1,6 +1,5 @@
 -- `duration::parts::as_secs` meets its contract. Assumes nothing.
 use native.Mathlib.Omega.{arith}
-use Prim.Native.Nat.{_^_}
 use Rattle.duration.proofs.Fields.{secs-is}
 use Rattle.duration.specs.Parts.{asSecs}
 use Rattle.duration.proofs.Valid.{not-valid}

@@ -1,6 +1,5 @@
 -- `duration::parts::subsec_nanos` meets its contract. Assumes nothing.
 use native.Mathlib.Omega.{arith}
-use Prim.Native.Nat.{_^_}
 use Rattle.duration.proofs.Fields.{subsec-is}
 use Rattle.duration.specs.Parts.{subsec}
 use Rattle.duration.proofs.Valid.{not-valid}

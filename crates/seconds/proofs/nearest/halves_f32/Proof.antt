@@ -1,6 +1,6 @@
 -- `seconds::nearest::halves_f32` meets its contract. Assumes nothing.
 use mathlib.Core.Path.{_≡_, _∙_}
-use Prim.Native.Nat.{ℕ, _+_, _*_, _/_, _%_, _^_, _<_}
+use Prim.Native.Nat.{ℕ, _+_, _*_, _/_, _%_, _^_}
 use native.Mathlib.Omega.{arith}
 use lib.Ieee.{binary32, add}
 use Rattle.seconds.proofs.Operations.{halves-are}

@@ -1,9 +1,9 @@
 -- `sums::bytes::all_rows` meets its contract: `sum` stands for the rows passed. Assumes nothing.
 use borrow.Author.Needs.{needs}
 use mathlib.Core.Path.{_∙_}
-use Prim.Native.Nat.{_≤_, _-_, _/_}
+use Prim.Native.Nat.{_≤_, _-_}
 use native.Mathlib.Omega.{arith}
-use lib.ListN.{length, take}
+use lib.ListN.{take}
 use Rattle.laws.specs.Bytes.{decoded}
 use Rattle.sums.specs.Sum.{rows}
 use Rattle.sums.proofs.ByteRows.{byte-part, byte-rows}

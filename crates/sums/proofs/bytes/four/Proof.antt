@@ -1,5 +1,4 @@
 -- `sums::bytes::four` meets its contract. Assumes nothing.
-use mathlib.Core.Path.{_∙_}
 use native.Mathlib.Omega.{arith}
 use Rattle.laws.proofs.Decoded.{four}
 use borrow.Author.Needs.{needs}

@@ -5,7 +5,7 @@ use mathlib.Core.Path.{_≡_}
 use Prim.Native.Nat.{_+_, _*_, _/_, _%_, _-_, _^_, _≤_, _<_}
 use lib.Pow.{pow-mono}
 use lib.Ieee.Nearest.{closest}
-use Rattle.seconds.proofs.Rounding.{one-shl}
+use Rattle.wide.proofs.Shifts.{one-shl}
 use Rattle.seconds.proofs.NoTie.{apart, faint-nanos, tiny-is, tiny-le, halved}
 use Rattle.seconds.proofs.from.fraction.faint.Statement.{statement}
 use Rattle.seconds.proofs.from.fraction.faint.Tie as tie

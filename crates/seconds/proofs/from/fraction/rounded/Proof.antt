@@ -4,7 +4,8 @@ use native.Mathlib.Omega.{arith}
 use mathlib.Core.Path.{_≡_}
 use Prim.Native.Nat.{_*_, _/_, _%_, _^_, _-_, _≤_}
 use lib.Pow.{pow-pos, pow-mono}
-use Rattle.seconds.proofs.Rounding.{one-shl, summed, added, added-le}
+use Rattle.wide.proofs.Shifts.{one-shl}
+use Rattle.seconds.proofs.Rounding.{summed, added, added-le}
 use Rattle.seconds.proofs.from.fraction.rounded.Statement.{statement}
 use Rattle.seconds.proofs.from.fraction.rounded.Tie as tie
 
