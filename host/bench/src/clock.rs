@@ -6,7 +6,7 @@ use std::time::{Duration, Instant};
 
 /// So many that the processor does not learn by heart which way each of them goes.
 const INPUTS: usize = 32_768;
-const ROUNDS: usize = 7;
+const ROUNDS: usize = 15;
 const SHORTEST_ROUND: Duration = Duration::from_millis(2);
 
 pub struct Clock {
