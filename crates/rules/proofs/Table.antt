@@ -32,8 +32,8 @@ use Rattle.bounds.proofs.Conversions.{never-over}
 use Rattle.text.specs.Options.{accepts}
 use Rattle.text.specs.Text.{text}
 use Rattle.text.specs.Answer.{fitted, answerOf}
-use Rattle.saltribbon.specs.declared.reply.Reply.the-variants as C
-use Rattle.saltribbon.specs.Reply.{codeOf, leftIn, ofDuration, ofSum, ofWide, ofWord, ofPart, ofFlag, ofOrder, ofF64, ofF32}
+use Rattle.reply.specs.declared.Reply.the-variants as C
+use Rattle.reply.specs.Reply.{codeOf, leftIn, ofDuration, ofSum, ofWide, ofWord, ofPart, ofFlag, ofOrder, ofF64, ofF32}
 use Rattle.rules.specs.Refusals.{Grounds, any, holds, order, firstOf, chosen, met, Ruled, bad, converted, listed, badOptions, textCode, Table, NeverBad, Saturates, Unchanged}
 use Rattle.rules.proofs.Checks.{_also_, differ, neither, exactly}
 use Rattle.rules.proofs.Conditions.{not-above, not-reached, is-valid, are-valid, at-most, all-valid, is-within, are-whole, are-accepted}

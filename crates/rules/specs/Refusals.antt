@@ -10,8 +10,8 @@ use Rattle.seconds.specs.Out.{secondsAs, f64If, f32If}
 use Rattle.seconds.specs.From.{fromSeconds, timesFloat, overFloat}
 use Rattle.text.specs.declared.{Count.Count, Options.Options, TextAnswer.TextAnswer}
 use Rattle.text.specs.Answer.{text, answerOf}
-use Rattle.saltribbon.specs.declared.reply.Reply.{Reply}
-use Rattle.saltribbon.specs.Reply.{codeOf, leftIn, ofDuration, ofSum, ofWide, ofWord, ofPart, ofFlag, ofOrder, ofF64, ofF32}
+use Rattle.reply.specs.declared.Reply.{Reply}
+use Rattle.reply.specs.Reply.{codeOf, leftIn, ofDuration, ofSum, ofWide, ofWord, ofPart, ofFlag, ofOrder, ofF64, ofF32}
 
 -- what 01's column "given exactly when" says of one call: the refusals that it can meet, each with whether its condition holds
 abbrev pub Grounds : Type 0

@@ -1,3 +1,2 @@
--- Laws of the replies.
-pub mod Replies
+-- Laws of the signed numbers at the text's C function.
 pub mod Signs

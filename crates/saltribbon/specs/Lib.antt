@@ -1,3 +1,2 @@
--- What the contracts of the C functions cite.
-pub mod Reply
+-- What the contract of the text's C function cites.
 pub mod Said

@@ -1,14 +1,14 @@
 // C functions that make a duration: from counts, and the six constants.
-use crate::reply::of_duration;
-use crate::reply::send;
 use duration::Answer;
 use duration::constructors;
+use reply::of_duration;
+use reply::send;
 use wide::Wide;
 ghost use Prim.Native.Nat.{_+_, _*_, _^_};
 ghost use Rattle.wide.specs.Wide.{wide};
 ghost use Rattle.duration.specs.Meaning.{exact, most};
 ghost use Rattle.duration.specs.Units.{fromUnit};
-ghost use Rattle.saltribbon.specs.Reply.{Replied, ofDuration};
+ghost use Rattle.reply.specs.Reply.{Replied, ofDuration};
 
 #[no_mangle]
 pub extern "C" fn salt_new(secs: u64, nanos: u32, out: &mut [u8]) -> u32

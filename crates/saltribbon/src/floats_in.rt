@@ -1,10 +1,10 @@
 // C functions that take a float: seconds as a duration, and a duration times and over a float.
-use crate::reply::of_duration;
-use crate::reply::send;
 use duration::Duration;
+use reply::of_duration;
+use reply::send;
 use seconds::from;
 ghost use Rattle.seconds.specs.From.{fromSeconds, timesFloat, overFloat};
-ghost use Rattle.saltribbon.specs.Reply.{Replied, ofDuration};
+ghost use Rattle.reply.specs.Reply.{Replied, ofDuration};
 
 #[no_mangle]
 pub extern "C" fn salt_try_from_secs_f64(x: f64, out: &mut [u8]) -> u32

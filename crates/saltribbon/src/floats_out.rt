@@ -1,14 +1,14 @@
 // C functions that answer with a float: a duration's seconds and milliseconds, and the quotient of two durations.
-use crate::reply::of_f32;
-use crate::reply::of_f64;
-use crate::reply::send;
 use duration::Duration;
+use reply::of_f32;
+use reply::of_f64;
+use reply::send;
 use seconds::out;
 ghost use mathlib.Core.Bool.{_&&_};
 ghost use lib.Ieee.{binary32, binary64};
 ghost use Rattle.duration.specs.Meaning.{valid};
 ghost use Rattle.seconds.specs.Out.{secondsAs, millisAs, quotientAs, f32If, f64If};
-ghost use Rattle.saltribbon.specs.Reply.{Replied, ofF32, ofF64};
+ghost use Rattle.reply.specs.Reply.{Replied, ofF32, ofF64};
 
 #[no_mangle]
 pub extern "C" fn salt_as_secs_f64(secs: u64, nanos: u32, out: &mut [u8]) -> u32

@@ -1,10 +1,10 @@
 // C functions of the integer arithmetic: two durations, or a duration and a whole number.
-use crate::reply::of_duration;
-use crate::reply::of_wide;
-use crate::reply::send;
 use duration::Duration;
+use reply::of_duration;
+use reply::of_wide;
+use reply::send;
 ghost use Rattle.arithmetic.specs.Arithmetic.{added, subtracted, apart, times, shared, floorOf, ceilOf, saturated};
-ghost use Rattle.saltribbon.specs.Reply.{Replied, ofDuration, ofWide};
+ghost use Rattle.reply.specs.Reply.{Replied, ofDuration, ofWide};
 
 #[no_mangle]
 pub extern "C" fn salt_checked_add(

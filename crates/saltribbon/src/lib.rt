@@ -5,5 +5,4 @@ pub mod floats_out;
 pub mod integers;
 pub mod parts;
 pub mod printed;
-mod reply;
 pub mod sum;

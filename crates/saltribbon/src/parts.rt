@@ -1,15 +1,15 @@
 // C functions that read a duration: its parts, its counts, whether it is zero, and the order of two.
-use crate::reply::of_flag;
-use crate::reply::of_order;
-use crate::reply::of_part;
-use crate::reply::of_wide;
-use crate::reply::of_word;
-use crate::reply::send;
 use duration::Duration;
 use duration::parts;
+use reply::of_flag;
+use reply::of_order;
+use reply::of_part;
+use reply::of_wide;
+use reply::of_word;
+use reply::send;
 ghost use Prim.Native.Nat.{_^_};
 ghost use Rattle.duration.specs.Parts.{asSecs, subsec, count, isZero, compared};
-ghost use Rattle.saltribbon.specs.Reply.{Replied, ofWide, ofWord, ofPart, ofFlag, ofOrder};
+ghost use Rattle.reply.specs.Reply.{Replied, ofWide, ofWord, ofPart, ofFlag, ofOrder};
 
 #[no_mangle]
 pub extern "C" fn salt_as_secs(secs: u64, nanos: u32, out: &mut [u8]) -> u32

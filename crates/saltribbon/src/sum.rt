@@ -1,8 +1,8 @@
 // The C function of the sum: rows as bytes, eight of seconds and four of nanoseconds for each, the lowest first.
-use crate::reply::of_sum;
-use crate::reply::send;
+use reply::of_sum;
+use reply::send;
 ghost use Rattle.sums.specs.Sum.{sumBytes};
-ghost use Rattle.saltribbon.specs.Reply.{Replied, ofSum};
+ghost use Rattle.reply.specs.Reply.{Replied, ofSum};
 
 #[no_mangle]
 pub extern "C" fn salt_sum(secs: &[u8], nanos: &[u8], first: u64, end: u64, out: &mut [u8]) -> u32

@@ -11,7 +11,7 @@ use Rattle.text.specs.declared.Options.{Options}
 use Rattle.text.specs.declared.TextAnswer.{TextAnswer}
 use Rattle.text.specs.Text.{text}
 use Rattle.text.specs.Answer.{Printed, answerOf, leftIn}
-use Rattle.saltribbon.specs.Reply.{Replied}
+use Rattle.reply.specs.Reply.{Replied}
 use Rattle.saltribbon.specs.Said.{Said}
 
 -- the law: where a contract says what the result is, and what is left of what was lent, any two answers are equal

@@ -11,6 +11,7 @@ use Rattle.arithmetic.proofs as arithmetic
 use Rattle.sums.proofs as sums
 use Rattle.seconds.proofs as seconds
 use Rattle.text.proofs as text
+use Rattle.reply.proofs as reply
 use Rattle.saltribbon.proofs as saltribbon
 
 -- ---- refusal
@@ -211,6 +212,37 @@ seconds·div-duration-f32 κs a r s u v = plain
 -- ---- text
 pub text·fmt : Tight text.fmt.ended text.fmt.Reads.Learnt
 text·fmt κs a r s u v = printed 2
+
+-- ---- reply
+pub reply·send : Tight reply.send.ended reply.send.Reads.Learnt
+reply·send κs a r s u v = replied 1
+
+pub reply·of-duration : Tight reply.of_duration.ended reply.of_duration.Reads.Learnt
+reply·of-duration κs a r s u v = plain
+
+pub reply·of-sum : Tight reply.of_sum.ended reply.of_sum.Reads.Learnt
+reply·of-sum κs a r s u v = plain
+
+pub reply·of-wide : Tight reply.of_wide.ended reply.of_wide.Reads.Learnt
+reply·of-wide κs a r s u v = plain
+
+pub reply·of-word : Tight reply.of_word.ended reply.of_word.Reads.Learnt
+reply·of-word κs a r s u v = plain
+
+pub reply·of-part : Tight reply.of_part.ended reply.of_part.Reads.Learnt
+reply·of-part κs a r s u v = plain
+
+pub reply·of-flag : Tight reply.of_flag.ended reply.of_flag.Reads.Learnt
+reply·of-flag κs a r s u v = plain
+
+pub reply·of-order : Tight reply.of_order.ended reply.of_order.Reads.Learnt
+reply·of-order κs a r s u v = plain
+
+pub reply·of-f64 : Tight reply.of_f64.ended reply.of_f64.Reads.Learnt
+reply·of-f64 κs a r s u v = plain
+
+pub reply·of-f32 : Tight reply.of_f32.ended reply.of_f32.Reads.Learnt
+reply·of-f32 κs a r s u v = plain
 
 -- ---- saltribbon::constructors
 pub saltribbon·salt-new : Tight saltribbon.constructors.salt_new.ended saltribbon.constructors.salt_new.Reads.Learnt

@@ -1,7 +1,7 @@
 -- `saltribbon::constructors::salt_from_unit` meets its contract. Assumes nothing.
 use mathlib.Core.Path.{ap, _∙_}
-use Rattle.saltribbon.specs.Reply.{ofDuration}
-use Rattle.saltribbon.proofs.Replies.{sent}
+use Rattle.reply.specs.Reply.{ofDuration}
+use Rattle.reply.proofs.Replies.{sent}
 use borrow.Author.Needs.{needs}
 use Rattle.saltribbon.proofs.constructors.salt_from_unit.Statement.{statement}
 use Rattle.saltribbon.proofs.constructors.salt_from_unit.Tie as tie

@@ -1,9 +1,9 @@
 -- `saltribbon::constructors::salt_zero` meets its contract. Assumes nothing.
 use mathlib.Core.Path.{ap, _∙_}
 use native.Mathlib.Omega.{arith}
-use Rattle.saltribbon.specs.Reply.{ofDuration}
+use Rattle.reply.specs.Reply.{ofDuration}
 use Rattle.duration.proofs.Exact.{exact-is}
-use Rattle.saltribbon.proofs.Replies.{sent}
+use Rattle.reply.proofs.Replies.{sent}
 use borrow.Author.Needs.{needs}
 use Rattle.saltribbon.proofs.constructors.salt_zero.Statement.{statement}
 use Rattle.saltribbon.proofs.constructors.salt_zero.Tie as tie

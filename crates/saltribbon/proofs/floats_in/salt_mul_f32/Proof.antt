@@ -1,7 +1,7 @@
 -- `saltribbon::floats_in::salt_mul_f32` meets its contract. Assumes nothing.
 use mathlib.Core.Path.{ap, _∙_}
-use Rattle.saltribbon.specs.Reply.{ofDuration}
-use Rattle.saltribbon.proofs.Replies.{sent}
+use Rattle.reply.specs.Reply.{ofDuration}
+use Rattle.reply.proofs.Replies.{sent}
 use borrow.Author.Needs.{needs}
 use Rattle.saltribbon.proofs.floats_in.salt_mul_f32.Statement.{statement}
 use Rattle.saltribbon.proofs.floats_in.salt_mul_f32.Tie as tie

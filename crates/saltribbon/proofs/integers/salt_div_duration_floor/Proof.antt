@@ -1,7 +1,7 @@
 -- `saltribbon::integers::salt_div_duration_floor` meets its contract. Assumes nothing.
 use mathlib.Core.Path.{ap, _∙_}
-use Rattle.saltribbon.specs.Reply.{ofWide}
-use Rattle.saltribbon.proofs.Replies.{sent}
+use Rattle.reply.specs.Reply.{ofWide}
+use Rattle.reply.proofs.Replies.{sent}
 use borrow.Author.Needs.{needs}
 use Rattle.saltribbon.proofs.integers.salt_div_duration_floor.Statement.{statement}
 use Rattle.saltribbon.proofs.integers.salt_div_duration_floor.Tie as tie

@@ -1,7 +1,7 @@
 -- `saltribbon::parts::salt_as_millis` meets its contract. Assumes nothing.
 use mathlib.Core.Path.{ap, _∙_}
-use Rattle.saltribbon.specs.Reply.{ofWide}
-use Rattle.saltribbon.proofs.Replies.{sent}
+use Rattle.reply.specs.Reply.{ofWide}
+use Rattle.reply.proofs.Replies.{sent}
 use borrow.Author.Needs.{needs}
 use Rattle.saltribbon.proofs.parts.salt_as_millis.Statement.{statement}
 use Rattle.saltribbon.proofs.parts.salt_as_millis.Tie as tie

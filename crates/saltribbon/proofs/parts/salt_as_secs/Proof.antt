@@ -1,7 +1,7 @@
 -- `saltribbon::parts::salt_as_secs` meets its contract. Assumes nothing.
 use mathlib.Core.Path.{ap, _∙_}
-use Rattle.saltribbon.specs.Reply.{ofWord}
-use Rattle.saltribbon.proofs.Replies.{sent}
+use Rattle.reply.specs.Reply.{ofWord}
+use Rattle.reply.proofs.Replies.{sent}
 use borrow.Author.Needs.{needs}
 use Rattle.saltribbon.proofs.parts.salt_as_secs.Statement.{statement}
 use Rattle.saltribbon.proofs.parts.salt_as_secs.Tie as tie

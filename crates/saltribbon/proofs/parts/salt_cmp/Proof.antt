@@ -1,7 +1,7 @@
 -- `saltribbon::parts::salt_cmp` meets its contract. Assumes nothing.
 use mathlib.Core.Path.{ap, _∙_}
-use Rattle.saltribbon.specs.Reply.{ofOrder}
-use Rattle.saltribbon.proofs.Replies.{sent}
+use Rattle.reply.specs.Reply.{ofOrder}
+use Rattle.reply.proofs.Replies.{sent}
 use borrow.Author.Needs.{needs}
 use Rattle.saltribbon.proofs.parts.salt_cmp.Statement.{statement}
 use Rattle.saltribbon.proofs.parts.salt_cmp.Tie as tie

@@ -1,7 +1,7 @@
 -- `saltribbon::parts::salt_is_zero` meets its contract. Assumes nothing.
 use mathlib.Core.Path.{ap, _∙_}
-use Rattle.saltribbon.specs.Reply.{ofFlag}
-use Rattle.saltribbon.proofs.Replies.{sent}
+use Rattle.reply.specs.Reply.{ofFlag}
+use Rattle.reply.proofs.Replies.{sent}
 use borrow.Author.Needs.{needs}
 use Rattle.saltribbon.proofs.parts.salt_is_zero.Statement.{statement}
 use Rattle.saltribbon.proofs.parts.salt_is_zero.Tie as tie

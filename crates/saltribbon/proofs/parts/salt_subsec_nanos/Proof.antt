@@ -1,7 +1,7 @@
 -- `saltribbon::parts::salt_subsec_nanos` meets its contract. Assumes nothing.
 use mathlib.Core.Path.{ap, _∙_}
-use Rattle.saltribbon.specs.Reply.{ofPart}
-use Rattle.saltribbon.proofs.Replies.{sent}
+use Rattle.reply.specs.Reply.{ofPart}
+use Rattle.reply.proofs.Replies.{sent}
 use borrow.Author.Needs.{needs}
 use Rattle.saltribbon.proofs.parts.salt_subsec_nanos.Statement.{statement}
 use Rattle.saltribbon.proofs.parts.salt_subsec_nanos.Tie as tie

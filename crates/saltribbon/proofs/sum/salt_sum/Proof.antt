@@ -1,7 +1,7 @@
 -- `saltribbon::sum::salt_sum` meets its contract. Assumes nothing.
 use mathlib.Core.Path.{ap, _∙_}
-use Rattle.saltribbon.specs.Reply.{ofSum}
-use Rattle.saltribbon.proofs.Replies.{sent}
+use Rattle.reply.specs.Reply.{ofSum}
+use Rattle.reply.proofs.Replies.{sent}
 use borrow.Author.Needs.{needs}
 use Rattle.saltribbon.proofs.sum.salt_sum.Statement.{statement}
 use Rattle.saltribbon.proofs.sum.salt_sum.Tie as tie

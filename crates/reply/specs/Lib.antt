@@ -1,0 +1,2 @@
+-- What the contracts of `reply` cite.
+pub mod Reply
