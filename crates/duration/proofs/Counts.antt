@@ -1,7 +1,7 @@
 -- Counts of a unit: whole seconds up to a limit, and the door by the unit's number. Assumes nothing.
 use mathlib.Core.Path.{_≡_, ap, _∙_}
 use Prim.Native.Nat.{ℕ, _+_, _*_, _^_, _≤_, _<_}
-use native.Mathlib.Nat.{mul-assoc, mul-le-mul-right, lt-of-le-of-lt, pos-of-ne-zero}
+use native.Mathlib.Nat.{mul-assoc, mul-le-mul-right, lt-of-le-of-lt}
 use native.Mathlib.Omega.{arith}
 use lib.ListN.{getD}
 use borrow.Author.Tests.{le-leb, lt-leb}
@@ -27,16 +27,12 @@ pub unit-bad : (count : ℕ) {unit : ℕ} → 7 < unit → Refused BadUnit ≡ f
 unfolding fromUnit
 unit-bad count {unit} h = rw (lt-leb unit 7 h)
 
-past : {u : ℕ} (k : ℕ) → k ≤ u → (u ≡ k → ⊥) → k + 1 ≤ u
-past k h n = omega arith
+-- ---- the last of a range, where all before it are ruled out
+pub a-second : {u : ℕ} → 1 ≤ u → u ≤ 3 → (u ≡ 1 → ⊥) → (u ≡ 2 → ⊥) → u ≡ 3
+a-second l h a b = omega arith
 
--- a unit that is none of the first three is a second or more
-pub above-two : {u : ℕ} → (u ≡ 0 → ⊥) → (u ≡ 1 → ⊥) → (u ≡ 2 → ⊥) → 3 ≤ u
-above-two a b c = past 2 (past 1 (pos-of-ne-zero a) b) c
-
--- and one that is none of the last four is a second
-pub a-second : {u : ℕ} → 3 ≤ u → u ≤ 7 → (u ≡ 4 → ⊥) → (u ≡ 5 → ⊥) → (u ≡ 6 → ⊥) → (u ≡ 7 → ⊥) → u ≡ 3
-a-second l h a b c d = omega arith
+pub a-week : {u : ℕ} → 4 ≤ u → u ≤ 7 → (u ≡ 4 → ⊥) → (u ≡ 5 → ⊥) → (u ≡ 6 → ⊥) → u ≡ 7
+a-week l h a b c = omega arith
 
 -- ---- a unit of whole seconds
 pub limited : {unit : ℕ} (k l : ℕ) → unit ≡ k → l * getD units k 0 < 2 ^ 64 * 10 ^ 9 → 2 ^ 64 * 10 ^ 9 ≤ (l + 1) * getD units k 0

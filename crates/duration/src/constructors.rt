@@ -4,7 +4,7 @@ use crate::Duration;
 use refusal::Refusal;
 use wide::Wide;
 ghost use mathlib.Core.Path.{_≡_};
-ghost use Prim.Native.Nat.{_+_, _*_, _^_, _<_};
+ghost use Prim.Native.Nat.{_+_, _*_, _^_, _<_, _≤_};
 ghost use Rattle.wide.specs.Wide.{wide};
 ghost use Rattle.duration.specs.Meaning.{ofNanos, exact};
 ghost use Rattle.duration.specs.Units.{fromUnit};
@@ -97,15 +97,26 @@ pub fn from_weeks(weeks: u64) -> Answer
     whole::seconds(weeks, 604_800, 30_500_568_904_943)
 }
 
-// So many of the unit with that number.
+// Microseconds, milliseconds or seconds, of which any count fits.
+fn any_count(count: u64, unit: u32) -> Answer
+    requires { ⌜ (1 ≤ unit) × (unit ≤ 3) ⌝ }
+    ensures { λ r. ⌜ r ≡ fromUnit count unit ⌝ }
+{
+    match unit {
+        1 => Answer::Is(from_micros(count)),
+        2 => Answer::Is(from_millis(count)),
+        _ => Answer::Is(from_secs(count)),
+    }
+}
+
+// So many of the unit with that number. Three units share an arm: the compiler tests for four arms of one number by a slower jump.
 pub fn from_unit(count: u64, unit: u32) -> Answer
     ensures { λ r. ⌜ r ≡ fromUnit count unit ⌝ }
 {
     match unit {
         0 => Answer::Is(from_nanos(count)),
-        1 => Answer::Is(from_micros(count)),
-        2 => Answer::Is(from_millis(count)),
-        3..=7 => whole::seconds(count, whole::scale(unit), whole::limit(unit)),
+        1..=3 => any_count(count, unit),
+        4..=7 => whole::seconds(count, whole::scale(unit), whole::limit(unit)),
         8.. => Answer::Refused(Refusal::BadUnit),
     }
 }

@@ -8,31 +8,29 @@ ghost use lib.ListN.{getD};
 ghost use Rattle.duration.specs.Meaning.{exact};
 ghost use Rattle.duration.specs.Units.{units};
 
-// The seconds of the unit with that number, from a second to a week.
+// The seconds of the unit with that number, from a minute to a week.
 pub fn scale(unit: u32) -> u64
-    requires { ⌜ (3 ≤ unit) × (unit ≤ 7) ⌝ }
+    requires { ⌜ (4 ≤ unit) × (unit ≤ 7) ⌝ }
     ensures { λ r. ⌜ r * 10 ^ 9 ≡ getD units unit 0 ⌝ }
 {
     match unit {
         4 => 60,
         5 => 3_600,
         6 => 86_400,
-        7 => 604_800,
-        _ => 1,
+        _ => 604_800,
     }
 }
 
 // The largest count of it that fits.
 pub fn limit(unit: u32) -> u64
-    requires { ⌜ (3 ≤ unit) × (unit ≤ 7) ⌝ }
+    requires { ⌜ (4 ≤ unit) × (unit ≤ 7) ⌝ }
     ensures { λ r. ⌜ (r * getD units unit 0 < 2 ^ 64 * 10 ^ 9) × (2 ^ 64 * 10 ^ 9 ≤ (r + 1) * getD units unit 0) ⌝ }
 {
     match unit {
         4 => 307_445_734_561_825_860,
         5 => 5_124_095_576_030_431,
         6 => 213_503_982_334_601,
-        7 => 30_500_568_904_943,
-        _ => u64::MAX,
+        _ => 30_500_568_904_943,
     }
 }
 

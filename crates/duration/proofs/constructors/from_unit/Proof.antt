@@ -3,17 +3,11 @@ use mathlib.Core.Path.{refl, ap, _∙_}
 use Prim.Native.Nat.{ℕ, _*_}
 use native.Mathlib.Omega.{arith}
 use Rattle.duration.specs.Meaning.{ofNanos, exact}
-use Rattle.duration.proofs.Counts.{unit-is, unit-bad, above-two, whole-limit}
+use Rattle.duration.proofs.Counts.{unit-is, unit-bad, whole-limit}
 use Rattle.duration.proofs.Exact.{exact-nanos}
 use borrow.Author.Needs.{needs}
 use Rattle.duration.proofs.constructors.from_unit.Statement.{statement}
 use Rattle.duration.proofs.constructors.from_unit.Tie as tie
-
-scale-requires : tie.Need-scale-requires
-scale-requires c κs = let r = c .before .match .rest in (above-two (r .0 .0 .1) (r .0 .1) (r .1), omega arith)
-
-limit-requires : tie.Need-limit-requires
-limit-requires c κs = let r = c .before .before .match .rest in (above-two (r .0 .0 .1) (r .0 .1) (r .1), omega arith)
 
 seconds-requires : tie.Need-seconds-requires
 seconds-requires c κs = whole-limit _ _ (c .before .scale .ensures) (c .limit .ensures)
@@ -22,18 +16,15 @@ returns : tie.Need-returns
 returns c = unit-is _ 0 (c .before .match .keys1) (omega arith) (exact-nanos (omega arith) (c .from-nanos .ensures ∙ ap ofNanos (omega arith)))
 
 returns-2 : tie.Need-returns-2
-returns-2 c = unit-is _ 1 (c .before .match .keys2) (omega arith) (exact-nanos (omega arith) (c .from-micros .ensures))
+returns-2 c = c .any-count .ensures
 
 returns-3 : tie.Need-returns-3
-returns-3 c = unit-is _ 2 (c .before .match .keys3) (omega arith) (exact-nanos (omega arith) (c .from-millis .ensures))
-
-returns-4 : tie.Need-returns-4
-returns-4 c =
-    let a = c .before .before .before .before .before .args in
+returns-3 c =
+    let a = c .before .before .before .before .before .before .args in
     unit-is _ (a .unit) refl (omega arith) (c .seconds .ensures ∙ ap (λ (v : ℕ). exact (a .count * v)) (c .before .before .scale .ensures))
 
-returns-5 : tie.Need-returns-5
-returns-5 c = unit-bad _ (omega arith)
+returns-4 : tie.Need-returns-4
+returns-4 c = unit-bad _ (omega arith)
 
 pub from-unit-spec : {M : Type 1} → statement M
 from-unit-spec =
@@ -42,11 +33,9 @@ from-unit-spec =
     (λ c κs. search needs)
     (λ c κs. search needs)
     (λ c κs. search needs)
-    scale-requires
-    limit-requires
+    (λ c κs. search needs)
     seconds-requires
     returns
     returns-2
     returns-3
-    returns-4
-    returns-5)
+    returns-4)

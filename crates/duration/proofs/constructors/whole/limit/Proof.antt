@@ -1,6 +1,6 @@
 -- `duration::constructors::whole::limit` meets its contract. Assumes nothing.
 use native.Mathlib.Omega.{arith}
-use Rattle.duration.proofs.Counts.{a-second, limited}
+use Rattle.duration.proofs.Counts.{a-week, limited}
 use Rattle.duration.proofs.constructors.whole.limit.Statement.{statement}
 use Rattle.duration.proofs.constructors.whole.limit.Tie as tie
 
@@ -14,10 +14,7 @@ returns-3 : tie.Need-returns-3
 returns-3 c = limited 6 _ (c .match .keys3) (omega arith) (omega arith)
 
 returns-4 : tie.Need-returns-4
-returns-4 c = limited 7 _ (c .match .keys4) (omega arith) (omega arith)
-
-returns-5 : tie.Need-returns-5
-returns-5 c = let r = c .match .rest in limited 3 _ (a-second (c .before .pre .0) (c .before .pre .1) (r .0 .0 .0 .1) (r .0 .0 .1) (r .0 .1) (r .1)) (omega arith) (omega arith)
+returns-4 c = let r = c .match .rest in limited 7 _ (a-week (c .before .pre .0) (c .before .pre .1) (r .0 .0 .1) (r .0 .1) (r .1)) (omega arith) (omega arith)
 
 pub limit-spec : {M : Type 1} → statement M
-limit-spec = tie.close (tie.spec returns returns-2 returns-3 returns-4 returns-5)
+limit-spec = tie.close (tie.spec returns returns-2 returns-3 returns-4)
