@@ -2,13 +2,13 @@
 use mathlib.Core.Path.{_≡_, refl, sym, ap, _∙_}
 use mathlib.Core.List.{List, [], _∷_, _++_, append-assoc, append-nil}
 use Prim.Native.Nat.{ℕ, zero, suc, _+_, _-_, _*_, _/_, _%_, _^_, _≤_, _<_, suc-le-suc}
-use native.Mathlib.Nat.{not-suc-le-zero, zero-add, suc-add, add-suc, add-zero, le-refl, le-of-eq, le-trans, lt-of-lt-of-le, pow-suc, one-le-pow, pow-le-pow-right, div-one, div-div-eq-div-mul, mul-comm, mul-assoc}
+use native.Mathlib.Nat.{not-suc-le-zero, add-suc, add-zero, le-refl, le-trans, lt-of-lt-of-le, pow-suc, one-le-pow, pow-le-pow-right, div-one, div-div-eq-div-mul, mul-comm, mul-assoc, add-comm}
 use native.Mathlib.Numerals.{add-one}
 use native.Mathlib.Omega.{arith}
 use borrow.Author.Tests.{lt-ltb, le-ltb}
 use lib.Dec.{ltb, lit<, lit≤}
 use lib.ListN.{length, take, set, getD, length-append, replicate-append-replicate}
-use lib.Seq.{take-all, take-append-le, take-at, take-take, getD-take, getD-at}
+use lib.Seq.{take-at, take-take, getD-take, getD-at}
 use Rattle.laws.specs.Written.{splice, times, Wrote}
 use Rattle.laws.proofs.Written.{splice-last}
 use Rattle.text.specs.Digits.{lastDigits, width, decimal}
@@ -30,9 +30,21 @@ pub digit-last : (xs : List ℕ) (at k n : ℕ) → splice (set xs (at + k) (48 
 unfolding lastDigits
 digit-last xs at k n = (λ i. splice (set xs (at + sym (length-digits k (n / 10)) i) (48 + n % 10)) at (lastDigits k (n / 10))) ∙ splice-last xs at (lastDigits k (n / 10)) (48 + n % 10)
 
-pub digit-more : (xs : List ℕ) (at k n : ℕ) → 0 < k → splice (set xs (at + (k - 1)) (48 + n % 10)) at (lastDigits (k - 1) (n / 10)) ≡ splice xs at (lastDigits k n)
-digit-more xs at zero n h = absurd (not-suc-le-zero h)
-digit-more xs at (suc k) n h = let e : suc k - 1 ≡ k = omega arith in rw e (digit-last xs at k n)
+pub digit-pair : (xs : List ℕ) (at k n : ℕ) → 1 < k → splice (set (set xs (at + (k - 2) + 1) (48 + n % 100 % 10)) (at + (k - 2)) (48 + n % 100 / 10)) at (lastDigits (k - 2) (n / 100)) ≡ splice xs at (lastDigits k n)
+digit-pair xs at k n h =
+    let j : ℕ = k - 2 in
+    let e : at + j + 1 ≡ at + suc j = omega arith in
+    let f : k ≡ suc (suc j) = omega arith in
+    let last : n % 100 % 10 ≡ n % 10 = omega arith in
+    let tens : n % 100 / 10 ≡ n / 10 % 10 = omega arith in
+    let rest : n / 100 ≡ n / 10 / 10 = omega arith in
+    (λ i. splice (set (set xs (e i) (48 + last i)) (at + j) (48 + tens i)) at (lastDigits j (rest i)))
+    ∙ digit-last (set xs (at + suc j) (48 + n % 10)) at j (n / 10)
+    ∙ digit-last xs at (suc j) n
+    ∙ ap (λ (z : ℕ). splice xs at (lastDigits z n)) (sym f)
+
+pub digit-one : (xs : List ℕ) (at n : ℕ) → splice (set xs at (48 + n % 10)) at (lastDigits 0 (n / 10)) ≡ splice xs at (lastDigits 1 n)
+digit-one xs at n = let z : at + 0 ≡ at = add-zero at in rw z at (digit-last xs at 0 n)
 
 pub all-digits : {xs zs : List ℕ} {at i : ℕ} (k n m : ℕ) → i ≤ 0 → splice zs at (lastDigits i m) ≡ splice xs at (lastDigits k n) → Wrote xs zs at (at + k) (lastDigits k n)
 unfolding lastDigits splice
@@ -70,14 +82,17 @@ unfolding decimal
 length-decimal n = length-digits (width n) n
 
 -- ---- the first and the last of a number's digits
-pub digits-take : (i q n : ℕ) → take q (lastDigits (i + q) n) ≡ lastDigits q (n / 10 ^ i)
+pub digits-split : (a b n : ℕ) → lastDigits (a + b) n ≡ lastDigits a (n / 10 ^ b) ++ lastDigits b n
 unfolding lastDigits
-digits-take zero q n =
-    let e : n / 10 ^ 0 ≡ n = div-one n in
-    rw (zero-add q, e) (take-all q (lastDigits q n) (le-of-eq (length-digits q n)))
-digits-take (suc i) q n =
-    let short : q ≤ length (lastDigits (i + q) (n / 10)) = omega (arith, length-digits (i + q) (n / 10)) in
-    rw (suc-add i q) (take-append-le q (lastDigits (i + q) (n / 10)) ((48 + n % 10) ∷ []) short ∙ digits-take i q (n / 10) ∙ ap (lastDigits q) (div-div-eq-div-mul n 10 (10 ^ i) ∙ ap (λ (z : ℕ). n / z) (mul-comm 10 (10 ^ i) ∙ sym (pow-suc 10 i))))
+digits-split a zero n = (λ i. lastDigits (add-zero a i) (sym (div-one n) i)) ∙ sym (append-nil (lastDigits a (n / 10 ^ 0)))
+digits-split a (suc b) n =
+    let e : n / 10 / 10 ^ b ≡ n / 10 ^ suc b = div-div-eq-div-mul n 10 (10 ^ b) ∙ ap (λ (z : ℕ). n / z) (mul-comm 10 (10 ^ b) ∙ sym (pow-suc 10 b)) in
+    ap (λ (z : ℕ). lastDigits z n) (add-suc a b)
+    ∙ ap (λ (l : List ℕ). l ++ ((48 + n % 10) ∷ [])) (digits-split a b (n / 10) ∙ ap (λ (z : ℕ). lastDigits a z ++ lastDigits b (n / 10)) e)
+    ∙ append-assoc (lastDigits a (n / 10 ^ suc b)) (lastDigits b (n / 10)) ((48 + n % 10) ∷ [])
+
+pub digits-take : (i q n : ℕ) → take q (lastDigits (i + q) n) ≡ lastDigits q (n / 10 ^ i)
+digits-take i q n = ap (λ (z : ℕ). take q (lastDigits z n)) (add-comm i q) ∙ ap (take q) (digits-split q i n) ∙ take-at (lastDigits q (n / 10 ^ i)) (lastDigits i n) q (length-digits q (n / 10 ^ i))
 
 module _ (d : List ℕ) (j m : ℕ) (e : take (suc j) d ≡ lastDigits (suc j) m) where
   pub last-digit : getD d j 0 ≡ 48 + m % 10
@@ -101,6 +116,15 @@ digits-low (suc q) n m =
     let d : (n * 10 ^ suc q + m) / 10 ≡ n * 10 ^ q + m / 10 = omega arith in
     let r : (n * 10 ^ suc q + m) % 10 ≡ m % 10 = omega arith in
     rw (d, r, digits-low q n (m / 10))
+
+-- a number in two parts
+pub two-parts : (n k m : ℕ) → 10 ≤ k → m ≡ n % 10 ^ 10 → lastDigits (k - 10) (n / 10 ^ 10) ++ lastDigits 10 m ≡ lastDigits k n
+two-parts n k m h e =
+    let f : k - 10 + 10 ≡ k = omega arith in
+    let g : n / 10 ^ 10 * 10 ^ 10 + m ≡ n = omega arith in
+    ap (λ (l : List ℕ). lastDigits (k - 10) (n / 10 ^ 10) ++ l) (sym (digits-low 10 (n / 10 ^ 10) m) ∙ ap (lastDigits 10) g)
+    ∙ sym (digits-split (k - 10) 10 n)
+    ∙ ap (λ (z : ℕ). lastDigits z n) f
 
 -- a multiple of 10 ^ b ends in b zeros
 pub digits-zeros : (a b y : ℕ) → lastDigits (a + b) (y * 10 ^ b) ≡ lastDigits a y ++ times b 48

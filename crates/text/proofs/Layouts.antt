@@ -15,7 +15,7 @@ use Rattle.text.specs.declared.Count.the-variants.{Unset, Set}
 use Rattle.text.specs.declared.fraction.Fraction.{Fraction}
 use Rattle.text.specs.declared.round.Rounded.{Rounded}
 use Rattle.text.specs.declared.number.Number.{Number}
-use Rattle.text.specs.Digits.{least, lastDigits, decimal, pointed, numeral}
+use Rattle.text.specs.Digits.{least, lastDigits, width, decimal, pointed, numeral}
 use Rattle.text.specs.Options.{limit}
 use Rattle.text.specs.Text.{exactPlaces, placesOf, shown}
 use Rattle.text.specs.Parts.{fractionOf, nearestTo, Rounds, laid, Whole, Laid}
@@ -48,10 +48,10 @@ places-low n x = λ i. least (λ (p : ℕ). eqb (same p i) 0) 9
         ∙ ap (λ (z : ℕ). z % 10 ^ 9) (sym (add-mul (n * 10 ^ 9) x (10 ^ p)))
 
 -- a number whose digits and whole part are those of the rounded value shows it
-shows : (n x q w s : ℕ) (d : List ℕ) → q ≤ 9 → w + s ≡ nearestTo q n x / 10 ^ q → take q d ≡ lastDigits q (nearestTo q n x)
-    → laid (record { whole = w; past = s; fraction = record { digits = d; count = q }; zeros = 0 }) ≡ shown 9 (n * 10 ^ 9 + x) q
+shows : (n x q w s v : ℕ) (d : List ℕ) → q ≤ 9 → w + s ≡ nearestTo q n x / 10 ^ q → take q d ≡ lastDigits q (nearestTo q n x)
+    → laid (record { whole = w; width = v; past = s; fraction = record { digits = d; count = q }; zeros = 0 }) ≡ shown 9 (n * 10 ^ 9 + x) q
 unfolding laid shown numeral times
-shows n x q w s d h e f =
+shows n x q w s v d h e f =
     (λ i. decimal (e i) ++ pointed (append-nil (f i) i)) ∙ ap (λ (m : ℕ). decimal (m / 10 ^ q) ++ pointed (lastDigits q m)) (sym (shown-nearest q n x h))
 
 pub no-past : (n : ℕ) → Whole n 0
@@ -61,11 +61,11 @@ pub all-past : {n past : ℕ} → n ≡ 2 ^ 64 - 1 → past ≤ 1 → Whole n pa
 all-past e h z = (e, omega (arith, z))
 
 -- all digits
-pub exactly-is : (n x : ℕ) {f : Fraction} → x < 10 ^ 9 → f ≡ fractionOf x
-    → Laid (shown 9 (n * 10 ^ 9 + x) (exactPlaces 9 (n * 10 ^ 9 + x))) (record { whole = n; past = 0; fraction = f; zeros = 0 })
-exactly-is n x {f} s e = record {
-  bytes = shows n x (f .count) n 0 (f .digits) le whole digits ∙ ap (shown 9 (n * 10 ^ 9 + x)) (its-count x e ∙ places-low n x);
-  sound = record { used = le; zeros = lit≤ tt; past = no-past _ };
+pub exactly-is : (n x : ℕ) {v : ℕ} {f : Fraction} → x < 10 ^ 9 → v ≡ width n → f ≡ fractionOf x
+    → Laid (shown 9 (n * 10 ^ 9 + x) (exactPlaces 9 (n * 10 ^ 9 + x))) (record { whole = n; width = v; past = 0; fraction = f; zeros = 0 })
+exactly-is n x {v} {f} s g e = record {
+  bytes = shows n x (f .count) n 0 v (f .digits) le whole digits ∙ ap (shown 9 (n * 10 ^ 9 + x)) (its-count x e ∙ places-low n x);
+  sound = record { used = le; zeros = lit≤ tt; past = no-past _; wide = g };
 }
   where
     q : ℕ
@@ -87,20 +87,20 @@ exactly-is n x {f} s e = record {
     digits = its-first x e q le ∙ sym (digits-low q n (x / 10 ^ (9 - q))) ∙ ap (lastDigits q) same
 
 -- fewer than nine: s is what the carry takes past the largest word
-pub rounded-is : (n x q w s : ℕ) {r : Rounded} → q ≤ 9 → Rounds n x q r → w + s ≡ n + r .carry → Whole w s
-    → Laid (shown 9 (n * 10 ^ 9 + x) q) (record { whole = w; past = s; fraction = r .fraction; zeros = 0 })
-rounded-is n x q w s {r} h o e p = record {
-  bytes = ap (λ (c : ℕ). laid (record { whole = w; past = s; fraction = record { digits = r .fraction .digits; count = c }; zeros = 0 })) (o .count) ∙ shows n x q w s (r .fraction .digits) h (e ∙ o .whole) (o .digits);
-  sound = record { used = omega (arith, o .count); zeros = lit≤ tt; past = p };
+pub rounded-is : (n x q w s : ℕ) {v : ℕ} {r : Rounded} → q ≤ 9 → Rounds n x q r → w + s ≡ n + r .carry → Whole w s → v ≡ width w
+    → Laid (shown 9 (n * 10 ^ 9 + x) q) (record { whole = w; width = v; past = s; fraction = r .fraction; zeros = 0 })
+rounded-is n x q w s {v} {r} h o e p g = record {
+  bytes = ap (λ (c : ℕ). laid (record { whole = w; width = v; past = s; fraction = record { digits = r .fraction .digits; count = c }; zeros = 0 })) (o .count) ∙ shows n x q w s v (r .fraction .digits) h (e ∙ o .whole) (o .digits);
+  sound = record { used = omega (arith, o .count); zeros = lit≤ tt; past = p; wide = g };
 }
 
 -- nine and more: zeros follow
-pub padded-is : (n x p : ℕ) {f : Fraction} → x < 10 ^ 9 → f ≡ fractionOf x → 9 ≤ p → p ≤ limit
-    → Laid (shown 9 (n * 10 ^ 9 + x) p) (record { whole = n; past = 0; fraction = record { digits = f .digits; count = 9 }; zeros = p - 9 })
+pub padded-is : (n x p : ℕ) {u : ℕ} {f : Fraction} → x < 10 ^ 9 → u ≡ width n → f ≡ fractionOf x → 9 ≤ p → p ≤ limit
+    → Laid (shown 9 (n * 10 ^ 9 + x) p) (record { whole = n; width = u; past = 0; fraction = record { digits = f .digits; count = 9 }; zeros = p - 9 })
 unfolding laid shown numeral
-padded-is n x p {f} s e h l = record {
+padded-is n x p {u} {f} s g e h l = record {
   bytes = (λ i. decimal (whole i) ++ pointed (digits i)) ∙ ap (λ (m : ℕ). decimal (m / 10 ^ p) ++ pointed (lastDigits p m)) (sym exact);
-  sound = record { used = lit≤ tt; zeros = omega arith; past = no-past _ };
+  sound = record { used = lit≤ tt; zeros = omega arith; past = no-past _; wide = g };
 }
   where
     j : ℕ

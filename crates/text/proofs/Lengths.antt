@@ -15,11 +15,15 @@ use Rattle.text.specs.Digits.{lastDigits, width, decimal, pointed}
 use Rattle.text.specs.Parts.{laid, Whole}
 use Rattle.text.proofs.Decimals.{length-decimal, width-is}
 
+-- the largest word
+pub word-most : {n : ℕ} → n ≡ 2 ^ 64 - 1 → 20 ≡ width n
+word-most e = width-is (2 ^ 64 - 1) 19 (lit< tt) (lit≤ tt) ∙ ap width (sym e)
+
 -- what rounding carries past the largest word adds no digit
 pub width-past : (n past : ℕ) → Whole n past → width (n + past) ≡ width n
 width-past n past w = elim (eq-zero-or-pos past) [
   | inl z ↦ ap width (ap (λ (y : ℕ). n + y) z ∙ add-zero n)
-  | inr z ↦ let e = w (λ (y : past ≡ 0). omega arith) in (λ i. width (e .0 i + e .1 i)) ∙ sym (width-is (2 ^ 64) 19 (lit< tt) (lit≤ tt)) ∙ width-is (2 ^ 64 - 1) 19 (lit< tt) (lit≤ tt) ∙ ap width (sym (e .0))
+  | inr z ↦ let e = w (λ (y : past ≡ 0). omega arith) in (λ i. width (e .0 i + e .1 i)) ∙ sym (width-is (2 ^ 64) 19 (lit< tt) (lit≤ tt)) ∙ word-most (e .0)
 ]
 
 pub no-more : (n : ℕ) {past : ℕ} → past ≡ 0 → length (decimal (n + past)) ≡ width n

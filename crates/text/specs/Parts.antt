@@ -1,7 +1,7 @@
 -- What passes between the steps of printing: a duration in its unit, the digits of a fraction, a number laid out. Assumes nothing.
 use Rattle.laws.specs.Names.{ℕ, _+_, _-_, _*_, _/_, _^_, _≤_, _<_, _≡_, List, _++_, length, take, closest, times}
 use Rattle.text.specs.declared.{unit.Scaled.Scaled, fraction.Fraction.Fraction, round.Rounded.Rounded, number.Number.Number, plain.Plain.Plain, plain.Size.Size}
-use Rattle.text.specs.Digits.{lastDigits, decimal, pointed}
+use Rattle.text.specs.Digits.{lastDigits, width, decimal, pointed}
 use Rattle.text.specs.Text.{limit, measure, suffixOf, unitOf, exactPlaces, characters}
 
 -- s is n nanoseconds in their unit
@@ -37,6 +37,7 @@ pub record Sound (n : Number) : Type 0 where
   pub used : n .fraction .count ≤ 9
   pub zeros : n .zeros ≤ limit
   pub past : Whole (n .whole) (n .past)
+  pub wide : n .width ≡ width (n .whole)
 
 -- n is laid out, and its bytes are t
 pub record Laid (t : List ℕ) (n : Number) : Type 0 where

@@ -35,29 +35,47 @@ pub fn width_of(n: u64) -> usize
     }
 }
 
-// The last k decimal digits of n at index at, written from the last to the first; the index after them.
+// The last k decimal digits of n at index at, written from the last to the first; the index after them. Two at a time, since
+// each division waits for the one before.
 pub fn put_digits(out: &mut [u8], at: usize, n: u64, k: usize) -> usize
     requires { ⌜ at + k ≤ length (now out) ⌝ }
     ensures { λ r. ⌜ Wrote (now (out .entry)) (now (out .exit)) at r (lastDigits k n) ⌝ }
 {
     let mut i = k;
     let mut rest = n;
-    while 0 < i {
-        i -= 1;
-        out[at + i] = b'0' + (rest % 10) as u8;
-        rest /= 10;
+    while 1 < i {
+        i -= 2;
+        let pair = rest % 100;
+        out[at + i + 1] = b'0' + (pair % 10) as u8;
+        out[at + i] = b'0' + (pair / 10) as u8;
+        rest /= 100;
     }
+    if i == 0 {
+        return at + k;
+    }
+    out[at] = b'0' + (rest % 10) as u8;
     at + k
 }
 
-// n + past in decimal, where past is 0, or 1 beside the largest word.
-pub fn put_whole(out: &mut [u8], at: usize, n: u64, past: u64) -> usize
-    requires { ⌜ (at + length (decimal (n + past)) ≤ length (now out)) × Whole n past ⌝ }
+// The same for a number that may be long: in two parts, which do not wait for each other.
+fn put_long(out: &mut [u8], at: usize, n: u64, k: usize) -> usize
+    requires { ⌜ at + k ≤ length (now out) ⌝ }
+    ensures { λ r. ⌜ Wrote (now (out .entry)) (now (out .exit)) at r (lastDigits k n) ⌝ }
+{
+    if k <= 10 {
+        return put_digits(out, at, n, k);
+    }
+    let middle = put_digits(out, at, n / 10_000_000_000, k - 10);
+    put_digits(out, middle, n % 10_000_000_000, 10)
+}
+
+// n + past in decimal, where past is 0, or 1 beside the largest word; n has k digits.
+pub fn put_whole(out: &mut [u8], at: usize, n: u64, past: u64, k: usize) -> usize
+    requires { ⌜ (at + length (decimal (n + past)) ≤ length (now out)) × Whole n past × (k ≡ width n) ⌝ }
     ensures { λ r. ⌜ Wrote (now (out .entry)) (now (out .exit)) at r (decimal (n + past)) ⌝ }
 {
     if past == 0 {
-        let k = width_of(n);
-        return put_digits(out, at, n, k);
+        return put_long(out, at, n, k);
     }
     copy(out, at, b"18446744073709551616")
 }

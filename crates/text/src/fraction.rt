@@ -1,7 +1,7 @@
 // The digit step: the digits of a fraction, and how many of them are in use.
 use crate::digits::put_digits;
 ghost use mathlib.Core.Path.{_≡_};
-ghost use Prim.Native.Nat.{_^_, _<_};
+ghost use Prim.Native.Nat.{_-_, _*_, _^_, _≤_, _<_};
 ghost use Rattle.text.specs.Text.{exactPlaces};
 ghost use Rattle.text.specs.Parts.{fractionOf};
 
@@ -11,13 +11,40 @@ pub struct Fraction {
     pub count: usize,
 }
 
+// A number without some of the zeros at its end, and how many of nine digits that leaves.
+struct Front {
+    rest: u32,
+    count: usize,
+}
+
+// Milliseconds end in three zeros and microseconds in six: these go at once.
+fn cut_thousands(x: u32) -> Front
+    requires { ⌜ 0 < x ⌝ }
+    ensures { λ r. ⌜ (0 < r .rest) × (r .count ≤ 9) × (x ≡ r .rest * 10 ^ (9 - r .count)) ⌝ }
+{
+    if x % 1_000_000 == 0 {
+        return Front {
+            rest: x / 1_000_000,
+            count: 3,
+        };
+    }
+    if x % 1_000 == 0 {
+        return Front {
+            rest: x / 1_000,
+            count: 6,
+        };
+    }
+    Front { rest: x, count: 9 }
+}
+
 // Of the nine digits of x, how many stand before the zeros at the end.
 fn used_of(x: u32) -> usize
     requires { ⌜ (0 < x) × (x < 10 ^ 9) ⌝ }
     ensures { λ r. ⌜ r ≡ exactPlaces 9 x ⌝ }
 {
-    let mut count = 9;
-    let mut rest = x;
+    let s = cut_thousands(x);
+    let mut count = s.count;
+    let mut rest = s.rest;
     while rest % 10 == 0 {
         rest /= 10;
         count -= 1;

@@ -21,6 +21,8 @@ ghost use Rattle.text.specs.Parts.{laid, Sound, Laid};
 // The whole part, the digits of the fraction in use, and zeros after them.
 pub struct Number {
     pub whole: u64,
+    // how many digits that has
+    pub width: usize,
     // 0, or 1 beside the largest word: what rounding carried past it
     pub past: u64,
     pub fraction: Fraction,
@@ -34,6 +36,7 @@ fn exactly(n: u64, x: u32) -> Number
 {
     Number {
         whole: n,
+        width: width_of(n),
         past: 0,
         fraction: fraction_of(x),
         zeros: 0,
@@ -50,6 +53,7 @@ fn rounded(n: u64, x: u32, p: usize) -> Number
         let digits = f.digits;
         return Number {
             whole: n,
+            width: width_of(n),
             past: 0,
             fraction: Fraction { digits, count: 9 },
             zeros: p - 9,
@@ -58,8 +62,10 @@ fn rounded(n: u64, x: u32, p: usize) -> Number
     let r = round(f, p, n);
     let fraction = r.fraction;
     if n < u64::MAX {
+        let whole = n + r.carry;
         return Number {
-            whole: n + r.carry,
+            whole,
+            width: width_of(whole),
             past: 0,
             fraction,
             zeros: 0,
@@ -67,6 +73,7 @@ fn rounded(n: u64, x: u32, p: usize) -> Number
     }
     Number {
         whole: n,
+        width: 20,
         past: r.carry,
         fraction,
         zeros: 0,
@@ -90,12 +97,11 @@ pub fn number_bytes(n: Number) -> usize
     ensures { λ r. ⌜ (r ≡ length (laid n)) × (r ≤ limit + 30) ⌝ }
 {
     let f = n.fraction;
-    let w = width_of(n.whole);
     let places = f.count + n.zeros;
     if places == 0 {
-        return w;
+        return n.width;
     }
-    w + 1 + places
+    n.width + 1 + places
 }
 
 // A point, the digits in use and the zeros; nothing where there are none.
@@ -119,6 +125,6 @@ pub fn put_number(out: &mut [u8], at: usize, n: Number) -> usize
     ensures { λ r. ⌜ Wrote (now (out .entry)) (now (out .exit)) at r (laid n) ⌝ }
 {
     let f = n.fraction;
-    let a = put_whole(out, at, n.whole, n.past);
+    let a = put_whole(out, at, n.whole, n.past, n.width);
     put_places(out, a, f, n.zeros)
 }

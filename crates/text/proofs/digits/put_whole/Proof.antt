@@ -8,15 +8,16 @@ use borrow.Author.Needs.{needs}
 use Rattle.text.proofs.digits.put_whole.Statement.{statement}
 use Rattle.text.proofs.digits.put_whole.Tie as tie
 
-put-digits-requires : tie.Need-put-digits-requires
-put-digits-requires c κs =
-    let s = c .before .before .before .before in
-    omega (arith, s .pre .0, c .before .width-of .ensures, no-more (s .args .n) (c .before .before .if1 .taken))
+put-long-requires : tie.Need-put-long-requires
+put-long-requires c κs =
+    let s = c .before .before .before in
+    omega (arith, s .pre .0, s .pre .2, no-more (s .args .n) (c .before .if1 .taken))
 
 returns : tie.Need-returns
 returns c =
-    let w = c .before .before .before .before in
-    as-bytes (word-decimal (w .before .before .before .args .n) (w .before .if1 .taken) (w .width-of .ensures)) (c .before .before .put-digits .ensures)
+    let i = c .before .before .before .before in
+    let s = i .before .before in
+    as-bytes (word-decimal (s .args .n) (i .if1 .taken) (s .pre .2)) (c .before .before .put-long .ensures)
 
 copy-requires : tie.Need-copy-requires
 copy-requires c κs =
@@ -32,8 +33,7 @@ pub put-whole-spec : {M : Type 1} → statement M
 put-whole-spec =
     tie.close
     (tie.spec
-    (λ c κs. search needs)
-    put-digits-requires
+    put-long-requires
     (λ c. search needs)
     returns
     (λ c. search needs)

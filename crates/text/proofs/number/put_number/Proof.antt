@@ -7,7 +7,7 @@ use Rattle.text.proofs.number.put_number.Statement.{statement}
 use Rattle.text.proofs.number.put_number.Tie as tie
 
 put-whole-requires : tie.Need-put-whole-requires
-put-whole-requires c κs = let s = c .before .before .before in (omega (arith, s .pre .0, sizes (s .args .n)), s .pre .1 .past)
+put-whole-requires c κs = let s = c .before .before .before in (omega (arith, s .pre .0, sizes (s .args .n)), s .pre .1 .past, s .pre .1 .wide)
 
 put-places-requires : tie.Need-put-places-requires
 put-places-requires c κs =
