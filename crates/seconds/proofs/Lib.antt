@@ -7,4 +7,5 @@ pub mod Fields
 pub mod Values
 pub mod Operations
 pub mod LastDigits
+pub mod Scaled
 pub mod Placed

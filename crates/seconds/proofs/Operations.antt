@@ -2,7 +2,7 @@
 use mathlib.Core.Path.{_≡_, refl, sym, ap, _∙_, subst}
 use mathlib.Core.Bool.{true, false, true≢false}
 use Prim.Native.Nat.{ℕ, zero, suc, _+_, _-_, _*_, _^_, _≤_, _<_}
-use native.Mathlib.Nat.{le-trans, le-of-eq, mul-right-comm, mul-sub, mul-le-mul-right, le-of-mul-le-mul-right, lt-of-lt-of-le, mul-assoc, mul-comm, mul-left-comm, mul-pos, mul-one, zero-mul, add-mul, zero-lt-suc, mul-mul-mul-comm}
+use native.Mathlib.Nat.{le-trans, le-of-eq, le-of-lt, mul-right-comm, mul-sub, mul-le-mul-right, le-of-mul-le-mul-right, lt-of-lt-of-le, mul-assoc, mul-comm, mul-left-comm, mul-pos, mul-one, zero-mul, add-mul, zero-lt-suc, mul-mul-mul-comm}
 use native.Mathlib.Omega.{arith}
 use lib.Dec.{eqb·suc-zero}
 use lib.Pow.{pow-add, pow-mono, shl-lt}
@@ -118,7 +118,7 @@ sub-at f (fin false m e) (fin false n g) a b c C l h k =
     same = away x y c ∙ ap (λ (z : ℕ). z - y * c) x-is ∙ ap (λ (z : ℕ). a * (down e * down g) - z) y-is ∙ sym (away a b (down e * down g))
 
 -- ---- a short whole number times 2 ^ k is a float exactly
-shifted-val : (f : Format) (a k : ℕ) → a < 2 ^ prec f → prec f + k ≤ suc (emax f) → HasValue (whole f (a * 2 ^ k)) false (a * 2 ^ k) 1
+pub shifted-val : (f : Format) (a k : ℕ) → a < 2 ^ prec f → prec f + k ≤ suc (emax f) → HasValue (whole f (a * 2 ^ k)) false (a * 2 ^ k) 1
 shifted-val f a k h r =
     subst (λ (z : Float). HasValue z false (a * 2 ^ k) 1) (sym (whole-round f (a * 2 ^ k)))
     (round-exact f false (a * 2 ^ k) 1 a (k + low f) (zero-lt-suc 0) h (lt-of-lt-of-le (shl-lt (prec f) (k + low f) h) (pow-mono (room (prec f) (low f) (suc (emax f)) r)))
@@ -133,11 +133,9 @@ sum-whole f x y a b h k =
     add-at f (zero-lt-suc 0) (zero-lt-suc 0) x y a b h k ∙ ap (λ (z : ℕ). round f false z 1) (ap (λ (z : ℕ). z + b * 1) (mul-one a) ∙ ap (λ (z : ℕ). a + z) (mul-one b)) ∙ sym (whole-round f (a + b))
 
 -- so two parts of a number, the upper one k places above the lower, make it in one rounding
-pub halves-are : (f : Format) (high rest k p n : ℕ) → high < 2 ^ prec f → rest < 2 ^ prec f → prec f + (p + k) ≤ suc (emax f) → high * 2 ^ k + rest ≡ n
-    → add f (whole f (high * 2 ^ (p + k))) (whole f (rest * 2 ^ p)) ≡ whole f (n * 2 ^ p)
-halves-are f high rest k p n H R r e =
-    sum-whole f (whole f (high * 2 ^ (p + k))) (whole f (rest * 2 ^ p)) (high * 2 ^ (p + k)) (rest * 2 ^ p) (shifted-val f high (p + k) H r) (shifted-val f rest p R (fewer (prec f) p k (suc (emax f)) r))
-    ∙ ap (whole f) (ap (λ (z : ℕ). z + rest * 2 ^ p) (ap (λ (z : ℕ). high * z) (pow-add 2 p k ∙ mul-comm (2 ^ p) (2 ^ k)) ∙ sym (mul-assoc high (2 ^ k) (2 ^ p))) ∙ sym (add-mul (high * 2 ^ k) rest (2 ^ p)) ∙ ap (λ (z : ℕ). z * 2 ^ p) e)
-  where
-    fewer : (a p k t : ℕ) → a + (p + k) ≤ t → a + p ≤ t
-    fewer a p k t h = omega arith
+pub halves-are : (f : Format) (high rest k n : ℕ) → high < 2 ^ prec f → rest < 2 ^ prec f → prec f + k ≤ suc (emax f) → high * 2 ^ k + rest ≡ n
+    → add f (whole f (high * 2 ^ k)) (whole f (rest * 1)) ≡ whole f n
+halves-are f high rest k n H R r e =
+    ap (λ (z : ℕ). add f (whole f (high * 2 ^ k)) (whole f z)) (mul-one rest)
+    ∙ sum-whole f (whole f (high * 2 ^ k)) (whole f rest) (high * 2 ^ k) rest (shifted-val f high k H r) (whole-val f rest (le-of-lt R))
+    ∙ ap (whole f) e

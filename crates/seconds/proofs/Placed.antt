@@ -1,4 +1,4 @@
--- A whole number as the digits of a float's pattern, with the float that has none of them taken off: one law for both widths. Assumes nothing.
+-- A whole number as the digits of a float's pattern, with the float that has none of them taken off, and a power of two by its exponent alone: one law for both widths. Assumes nothing.
 use mathlib.Core.Path.{_≡_, sym, ap, _∙_, subst}
 use mathlib.Core.Bool.{Bool, false, not}
 use Prim.Native.Nat.{ℕ, suc, _+_, _-_, _*_, _^_, _≤_, _<_}
@@ -7,13 +7,15 @@ use native.Mathlib.Omega.{arith}
 use lib.Dec.{T, ltb}
 use lib.Arith.{digits-lt, digits-div, digits-mod, le→nltb}
 use lib.Pow.{pow-pos, pow-add}
-use lib.Ieee.{Float, Format, prec, low, hid, ones, top, odd, round, sub, ofFields, ofBits, nanBits}
+use lib.Ieee.{Float, Format, prec, emax, low, hid, ones, top, odd, round, sub, mul, ofFields, ofBits, nanBits}
+use lib.Ieee.Fits.{two, reach}
 use lib.Ieee.Exact.{HasValue, odd-sign}
 use lib.Ieee.Scale.{round-same}
 use lib.Ieee.Bits.{nanBits-above}
 use borrow.Author.Tests.{lt-leb, ne-eqb}
 use Rattle.seconds.specs.Out.{whole}
 use Rattle.seconds.proofs.Operations.{whole-round, sub-at}
+use Rattle.seconds.proofs.Scaled.{lowered, scaled-is}
 
 -- ---- the pattern of the exponent field suc j and the digits t
 module _ (f : Format) (j t : ℕ) (X : suc j < ones f) (H : t < hid f) where
@@ -42,6 +44,42 @@ module _ (f : Format) (j t : ℕ) (X : suc j < ones f) (H : t < hid f) where
   value : HasValue (ofBits f b) false ((hid f + t) * 2 ^ j) (2 ^ low f)
   value = subst (λ (z : Float). HasValue z false ((hid f + t) * 2 ^ j) (2 ^ low f)) (sym bits-are) (odd-sign (prec f) false (hid f + t) j (low f))
 
+-- ---- no digits
+module _ (f : Format) (j : ℕ) (X : suc j < ones f) where
+  bare-number : T (not (nanBits f (suc j * hid f)))
+  bare-number = subst (λ (z : ℕ). T (not (nanBits f z))) (add-zero (suc j * hid f)) (no-nan f j 0 X (pow-pos (prec f - 1)))
+
+  bare-value : HasValue (ofBits f (suc j * hid f)) false (hid f * 2 ^ j) (2 ^ low f)
+  bare-value =
+      subst (λ (z : ℕ). HasValue (ofBits f z) false (hid f * 2 ^ j) (2 ^ low f)) (add-zero (suc j * hid f))
+      (subst (λ (z : ℕ). HasValue (ofBits f (suc j * hid f + 0)) false (z * 2 ^ j) (2 ^ low f)) (add-zero (hid f)) (value f j 0 X (pow-pos (prec f - 1))))
+
+-- ---- the machine's pattern of 2 ^ k: x is the exponent's field
+module _ (f : Format) (k x : ℕ) (e : x ≡ emax f + k) (X : x < ones f) where
+  next : x ≡ suc (emax f - 1 + k)
+  next = e ∙ go (prec f) (emax f) (two f) (reach f)
+    where
+      go : (p e : ℕ) → 2 ≤ p → p ≤ suc e → e + k ≡ suc (e - 1 + k)
+      go p e h g = omega arith
+
+  in-field : suc (emax f - 1 + k) < ones f
+  in-field = subst (λ (z : ℕ). z < ones f) next X
+
+  pub power-number : T (not (nanBits f (x * hid f)))
+  power-number = rw next (bare-number f (emax f - 1 + k) in-field)
+
+  power-value : HasValue (ofBits f (x * hid f)) false (2 ^ k) 1
+  power-value =
+      lowered (ofBits f (x * hid f)) (2 ^ k) (2 ^ low f) (pow-pos (low f))
+      (subst (λ (z : ℕ). HasValue (ofBits f (x * hid f)) false z (2 ^ low f)) (sym (pow-add 2 (prec f - 1) (emax f - 1 + k)) ∙ ap (λ (z : ℕ). 2 ^ z) (go (prec f) (emax f) (two f) (reach f)) ∙ pow-add 2 k (low f))
+      (rw next (bare-value f (emax f - 1 + k) in-field)))
+    where
+      go : (p e : ℕ) → 2 ≤ p → p ≤ suc e → p - 1 + (e - 1 + k) ≡ k + (e + p - 2)
+      go p e h g = omega arith
+
+  pub times-power : (m b : ℕ) → m < 2 ^ b → b + k ≤ emax f → mul f (whole f m) (ofBits f (x * hid f)) ≡ whole f (m * 2 ^ k)
+  times-power m b B K = scaled-is f m b k (ofBits f (x * hid f)) B K power-value
+
 -- ---- the machine's pattern: x is the exponent's field, and its digits count in 2 ^ p
 module _ (f : Format) (p x : ℕ) (e : x ≡ suc (low f + p)) (X : x < ones f) where
   X′ : suc (low f + p) < ones f
@@ -51,7 +89,7 @@ module _ (f : Format) (p x : ℕ) (e : x ≡ suc (low f + p)) (X : x < ones f) w
   is-number t H = rw e (no-nan f (low f + p) t X′ H)
 
   pub unit-number : T (not (nanBits f (x * hid f)))
-  unit-number = subst (λ (z : ℕ). T (not (nanBits f z))) (add-zero (x * hid f)) (is-number 0 (pow-pos (prec f - 1)))
+  unit-number = rw e (bare-number f (low f + p) X′)
 
   pub placed-is : (t : ℕ) → t < hid f → sub f (ofBits f (x * hid f + t)) (ofBits f (x * hid f)) ≡ whole f (t * 2 ^ p)
   placed-is t H =
@@ -67,4 +105,4 @@ module _ (f : Format) (p x : ℕ) (e : x ≡ suc (low f + p)) (X : x < ones f) w
       at t H = rw e (value f j t X′ H)
 
       unit : HasValue (ofBits f (x * hid f)) false (hid f * 2 ^ j) (2 ^ low f)
-      unit = subst (λ (z : ℕ). HasValue (ofBits f z) false (hid f * 2 ^ j) (2 ^ low f)) (add-zero (x * hid f)) (subst (λ (z : ℕ). HasValue (ofBits f (x * hid f + 0)) false (z * 2 ^ j) (2 ^ low f)) (add-zero (hid f)) (at 0 (pow-pos (prec f - 1))))
+      unit = rw e (bare-value f j X′)

@@ -2,6 +2,7 @@
 use mathlib.Core.Path.{_≡_, _∙_}
 use Prim.Native.Nat.{ℕ, _+_, _*_, _/_, _%_, _^_}
 use native.Mathlib.Omega.{arith}
+use lib.Dec.{lit≤}
 use lib.Ieee.{binary32, add}
 use Rattle.seconds.proofs.Operations.{halves-are}
 use borrow.Author.Needs.{needs}
@@ -13,10 +14,9 @@ split m = omega arith
 
 returns : tie.Need-returns
 returns c =
-    let s = c .before .before in
-    let m = s .args .m in
+    let m = c .before .before .args .m in
     (λ i. add binary32 (c .before .placed-f32 .ensures i) (c .placed-f322 .ensures i))
-    ∙ halves-are binary32 (m / 0x80_0000) (m % 0x80_0000) 23 (s .args .place) m (omega arith) (omega arith) (omega arith) (split m)
+    ∙ halves-are binary32 (m / 0x80_0000) (m % 0x80_0000) 23 m (omega arith) (omega arith) (lit≤ tt) (split m)
 
 pub halves-f32-spec : {M : Type 1} → statement M
-halves-f32-spec = tie.close (tie.spec (λ c. search needs) (λ c κs. search needs) (λ c κs. search needs) returns)
+halves-f32-spec = tie.close (tie.spec (λ c κs. search needs) (λ c κs. search needs) returns)
