@@ -21,9 +21,21 @@ use Rattle.duration.specs.Meaning.{N}
 use Rattle.arithmetic.specs.Arithmetic.{quotientOf, floorOf, ceilOf}
 use Rattle.duration.proofs.Valid.{is-valid}
 
+-- their counts: of one word, of two, and never with more than 10 ^ 9 words of seconds
+pub one-word : (a : Duration) {n : Wide} → n ≡ words (N a) → n .hi ≡ 0 → n .lo ≡ N a
+unfolding wide
+one-word a e h = omega (arith, h, ap wide e ∙ wide-words (N a))
+
+pub two-words : (a : Duration) {n : Wide} → n ≡ words (N a) → wide n ≡ N a
+two-words a e = ap wide e ∙ wide-words (N a)
+
+pub high-lt : (a : Duration) {n : Wide} → n ≡ words (N a) → a .secs < 2 ^ 64 → a .nanos < 10 ^ 9 → n .hi < 10 ^ 9
+unfolding wide
+high-lt a e s h = omega (arith, two-words a e)
+
 -- the division of two durations is that of their counts in two words
 pub of-counts : (a b : Duration) {n d : Wide} → n ≡ words (N a) → d ≡ words (N b) → division (wide n) (wide d) ≡ division (N a) (N b)
-of-counts a b e f = λ i. division ((ap wide e ∙ wide-words (N a)) i) ((ap wide f ∙ wide-words (N b)) i)
+of-counts a b e f = λ i. division (two-words a e i) (two-words b f i)
 
 -- whether two words are zero
 pub nothing-left : (w : Wide) → w .hi ≡ 0 → w .lo ≡ 0 → _≡_ {A = ℕ} 0 (cond (eqb (wide w) 0) 0 1)
@@ -48,7 +60,7 @@ rounded-up n d pos = go (eqb (n % d) 0) refl
 at-most : (n d : ℕ) → 0 < d → (n + (d - 1)) / d ≤ n
 at-most n d pos = let h : (n + (d - 1)) / d < n + 1 = div-lt-iff-lt-mul {k = d} {x = n + (d - 1)} {y = n + 1} pos .1 (omega (arith, le-mul-of-pos-right n pos)) in omega arith
 
-one-at-most : (t : Bool) → cond t 0 1 ≤ 1
+pub one-at-most : (t : Bool) → cond t 0 1 ≤ 1
 one-at-most true = omega arith
 one-at-most false = omega arith
 
@@ -109,20 +121,28 @@ module _ (n : ℕ) (d : Wide) (b : n < 2 ^ 64) where
     ceil-word {y} e =
         rw word (quotient-is ((n + (d .lo - 1)) / d .lo) (d .lo) (pos-of-ne-zero z) (ceil-room e) (omega arith ∙ ap (λ (v : ℕ). n / d .lo + v) (left-is (n % d .lo) e) ∙ rounded-up n (d .lo) (pos-of-ne-zero z)))
 
+-- ---- a number of two words by another
+module _ (n d : Wide) {x : ℕ} (h : 0 < d .hi) (e : x ≡ wide n / wide d) (b : x < 2 ^ 31) where
+  pub floor-long : Wide.Is (record { hi = 0; lo = x }) ≡ quotientOf (wide n / wide d) (wide d)
+  unfolding wide
+  floor-long = quotient-is (wide n / wide d) (wide d) (omega arith) (omega arith) (omega (arith, e))
+
+  pub ceil-long : {y r : ℕ} → y ≡ cond (eqb r 0) 0 1 → r ≡ wide n % wide d → Wide.Is (record { hi = 0; lo = x + y }) ≡ quotientOf ((wide n + (wide d - 1)) / wide d) (wide d)
+  unfolding wide
+  ceil-long {y} {r} f g =
+      let k : y ≡ cond (eqb (wide n % wide d) 0) 0 1 = f ∙ ap (λ (v : ℕ). cond (eqb v 0) 0 1) g in
+      quotient-is ((wide n + (wide d - 1)) / wide d) (wide d) (omega arith) (omega (arith, f, one-at-most (eqb r 0))) (omega arith ∙ (λ i. e i + k i) ∙ rounded-up (wide n) (wide d) (omega arith))
+
 module _ (a b : Duration) (p : a .nanos < 10 ^ 9) (q : b .nanos < 10 ^ 9) where
-  -- where a has one word of nanoseconds
-  module _ {n d : Wide} (e : n ≡ words (N a)) (f : d ≡ words (N b)) (h : n .hi ≡ 0) where
-    word-of : n .lo ≡ N a
-    unfolding wide
-    word-of = omega (arith, h, ap wide e ∙ wide-words (N a))
-
-    pub floor-short : {z : WideAnswer} → z ≡ quotientOf (n .lo / wide d) (wide d) → z ≡ floorOf a b
+  -- in whichever words the nanoseconds x of a came
+  module _ {d : Wide} {x : ℕ} (e : x ≡ N a) (f : d ≡ words (N b)) where
+    pub floor-of : {z : WideAnswer} → z ≡ quotientOf (x / wide d) (wide d) → z ≡ floorOf a b
     unfolding floorOf
-    floor-short g = rw (is-valid a p, is-valid b q) (g ∙ (λ i. quotientOf (word-of i / (ap wide f ∙ wide-words (N b)) i) ((ap wide f ∙ wide-words (N b)) i)))
+    floor-of g = rw (is-valid a p, is-valid b q) (g ∙ (λ i. quotientOf (e i / two-words b f i) (two-words b f i)))
 
-    pub ceil-short : {z : WideAnswer} → z ≡ quotientOf ((n .lo + (wide d - 1)) / wide d) (wide d) → z ≡ ceilOf a b
+    pub ceil-of : {z : WideAnswer} → z ≡ quotientOf ((x + (wide d - 1)) / wide d) (wide d) → z ≡ ceilOf a b
     unfolding ceilOf
-    ceil-short g = rw (is-valid a p, is-valid b q) (g ∙ (λ i. quotientOf ((word-of i + ((ap wide f ∙ wide-words (N b)) i - 1)) / (ap wide f ∙ wide-words (N b)) i) ((ap wide f ∙ wide-words (N b)) i)))
+    ceil-of g = rw (is-valid a p, is-valid b q) (g ∙ (λ i. quotientOf ((e i + (two-words b f i - 1)) / two-words b f i) (two-words b f i)))
 
   pub floor-zero : {f : Refusal} → NotDivided f ≡ division (N a) (N b) → Wide.Refused f ≡ floorOf a b
   unfolding floorOf

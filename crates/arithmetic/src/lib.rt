@@ -119,6 +119,9 @@ pub fn div_duration_floor(a: Duration, b: Duration) -> WideAnswer
     if n.hi == 0 {
         return quotient::short_floor(n.lo, d);
     }
+    if 0 < d.hi {
+        return quotient::long_floor(n, d);
+    }
     match wide::div(n, d) {
         DivAnswer::Divided(x) => {
             let whole = x.quotient;
@@ -142,6 +145,9 @@ pub fn div_duration_ceil(a: Duration, b: Duration) -> WideAnswer
     let d = wide::scaled(b.secs, 1_000_000_000, b.nanos);
     if n.hi == 0 {
         return quotient::short_ceil(n.lo, d);
+    }
+    if 0 < d.hi {
+        return quotient::long_ceil(n, d);
     }
     match wide::div(n, d) {
         DivAnswer::Divided(x) => {

@@ -61,6 +61,14 @@ answer-is n b a e = ap Is (words-of n b e) ∙ answer-fits n (rw (← e) (digits
 pub answer-overflow : (n : ℕ) {h : ℕ} (l : ℕ) → 2 ^ 64 ≤ h → h * 2 ^ 64 + l ≡ n → Refused Overflow ≡ answer n
 answer-overflow n {h} l b e = answer-over n (rw (← e) (le-trans (mul-le-mul-right (2 ^ 64) b) (le-add-right (h * 2 ^ 64) l)))
 
+pub answer-told : (n : ℕ) {w : Wide} → Is w ≡ answer n → wide w ≡ n
+unfolding answer
+answer-told n e = by-test (ltb n (2 ^ 128)) e (λ t p. ap wide (is-same p) ∙ wide-words n) (λ t p. cc)
+
+pub overflow-told : (n : ℕ) {f : Refusal} → Refused f ≡ answer n → (f ≡ Overflow) × (2 ^ 128 ≤ n)
+unfolding answer
+overflow-told n e = by-test (ltb n (2 ^ 128)) e (λ t p. (cc, ltb-false _ _ (cc))) (λ t p. (cc, ltb-false _ _ t))
+
 -- `difference` is what is between two numbers, or Underflow
 pub difference-is : (m n : ℕ) (w : Wide) → w .lo < 2 ^ 64 → wide w + n ≡ m → Is w ≡ difference m n
 unfolding difference wide
