@@ -56,15 +56,14 @@ impl Clock {
             let agree = ours(input, &mut a) == rust(input, &mut b) && a == b;
             assert!(agree, "{name}: input {at} differs; run `compare` first");
         }
-        let mut out = buffer;
-        let once = round::<0, _, _>(&inputs, &mut out, 1, &rust).max(Duration::from_nanos(1));
+        let once = round::<0, 0, _, _>(&inputs, &buffer, 1, &rust).max(Duration::from_nanos(1));
         let repeats = (SHORTEST_ROUND.as_nanos() / once.as_nanos() + 1) as u32;
         let mut best = [Duration::MAX; 2];
         for _ in 0..ROUNDS {
-            turn::<0, _, _>(&inputs, &mut out, repeats, &ours, &rust, &mut best);
-            turn::<16, _, _>(&inputs, &mut out, repeats, &ours, &rust, &mut best);
-            turn::<32, _, _>(&inputs, &mut out, repeats, &ours, &rust, &mut best);
-            turn::<48, _, _>(&inputs, &mut out, repeats, &ours, &rust, &mut best);
+            turn::<0, 0, _, _>(&inputs, &buffer, repeats, &ours, &rust, &mut best);
+            turn::<16, 1_040, _, _>(&inputs, &buffer, repeats, &ours, &rust, &mut best);
+            turn::<32, 2_080, _, _>(&inputs, &buffer, repeats, &ours, &rust, &mut best);
+            turn::<48, 3_120, _, _>(&inputs, &buffer, repeats, &ours, &rust, &mut best);
         }
         let calls = f64::from(repeats) * count as f64;
         let [a, b] = best.map(|time| time.as_secs_f64() * 1e9 / calls);
@@ -73,35 +72,40 @@ impl Clock {
     }
 }
 
-/// Both sides once, from a loop that lies SHIFT bytes further on: a third of a nanosecond hangs on where a loop lies.
-fn turn<const SHIFT: usize, I, B>(
+/// Both sides once, from a loop that lies SHIFT bytes further on and a stack that lies GAP bytes further down. A third of a
+/// nanosecond hangs on where a loop lies. A load waits for a store whose address ends in the same twelve bits, so that a
+/// function with constants in memory takes up to twice as long where the stack happens to end as they do.
+fn turn<const SHIFT: usize, const GAP: usize, I, B: Clone>(
     inputs: &[I],
-    out: &mut B,
+    buffer: &B,
     repeats: u32,
     ours: impl Fn(&I, &mut B) -> u32,
     rust: impl Fn(&I, &mut B) -> u32,
     best: &mut [Duration; 2],
 ) {
-    best[0] = best[0].min(round::<SHIFT, _, _>(inputs, out, repeats, ours));
-    best[1] = best[1].min(round::<SHIFT, _, _>(inputs, out, repeats, rust));
+    best[0] = best[0].min(round::<SHIFT, GAP, _, _>(inputs, buffer, repeats, ours));
+    best[1] = best[1].min(round::<SHIFT, GAP, _, _>(inputs, buffer, repeats, rust));
 }
 
 /// One function over all inputs, `repeats` times.
 #[inline(never)]
-fn round<const SHIFT: usize, I, B>(
+fn round<const SHIFT: usize, const GAP: usize, I, B: Clone>(
     inputs: &[I],
-    out: &mut B,
+    buffer: &B,
     repeats: u32,
     call: impl Fn(&I, &mut B) -> u32,
 ) -> Duration {
+    let gap = [0u8; GAP];
+    black_box(&gap);
+    let mut out = buffer.clone();
     // SAFETY: these instructions do nothing.
     unsafe { std::arch::asm!(".rept {}", "nop", ".endr", const SHIFT) };
     let start = Instant::now();
     for _ in 0..repeats {
         for input in inputs {
-            black_box(call(input, out));
+            black_box(call(input, &mut out));
         }
     }
-    black_box(&*out);
+    black_box(&out);
     start.elapsed()
 }
