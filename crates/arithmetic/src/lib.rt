@@ -1,4 +1,6 @@
 // Integer arithmetic: sums, differences, and products and quotients by a whole number. Each is exact, or refused.
+#![tactic(auto)]
+
 ghost use Rattle.std.specs.Prelude.{◌≡◌};
 ghost use Rattle.arithmetic.specs.Arithmetic.{added, subtracted, apart, times, shared, floor_of, ceil_of, saturated};
 

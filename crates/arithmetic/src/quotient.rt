@@ -58,7 +58,7 @@ pub fn short_ceil(n: u64, d: Wide) -> WideAnswer
 }
 
 // A quotient of one word, with a remainder of two.
-#[derive(Drop)]
+#[derive(Clone, Copy)]
 struct Step {
     q: u64,
     r: Wide,

@@ -1,4 +1,5 @@
 // The operations of `wide` as C functions, for the judge of the tests alone: no part of the product. A number goes in as its low
+#![tactic(auto)]
 // and its high word. Each function returns 0 or the refusal's number, and writes four words into `out`, or on a refusal none.
 ghost use Rattle.std.specs.Prelude.{◌≡◌, ◌+◌, ◌*◌, ◌/◌, ◌^◌};
 ghost use Rattle.wide.specs.Wide.{wide, words, answer, difference, order, division};
@@ -8,7 +9,7 @@ use refusal::Refusal;
 use wide::{DivAnswer, Order, Wide, WideAnswer};
 
 // What a call writes, or why it writes nothing.
-#[derive(Drop)]
+#[derive(Clone, Copy)]
 enum Reply {
     Four(u64, u64, u64, u64),
     Refused(Refusal),

@@ -1,4 +1,6 @@
 // A duration, and the answers of the operations on it: a value or a refusal by name.
+#![tactic(auto)]
+
 use refusal::Refusal;
 use wide::Order;
 
@@ -6,42 +8,42 @@ pub mod constructors;
 pub mod parts;
 
 // Whole seconds and the nanoseconds below a second. Any pair can be handed in: one with 10^9 nanoseconds or more is refused.
-#[derive(Drop)]
+#[derive(Clone, Copy)]
 pub struct Duration {
     pub secs: u64,
     pub nanos: u32,
 }
 
 // A duration, or why there is none.
-#[derive(Drop)]
+#[derive(Clone, Copy)]
 pub enum Answer {
     Is(Duration),
     Refused(Refusal),
 }
 
 // A number of one word, or why there is none.
-#[derive(Drop)]
+#[derive(Clone, Copy)]
 pub enum WordAnswer {
     Is(u64),
     Refused(Refusal),
 }
 
 // A number below a second, or why there is none.
-#[derive(Drop)]
+#[derive(Clone, Copy)]
 pub enum PartAnswer {
     Is(u32),
     Refused(Refusal),
 }
 
 // Yes or no, or why neither.
-#[derive(Drop)]
+#[derive(Clone, Copy)]
 pub enum FlagAnswer {
     Is(bool),
     Refused(Refusal),
 }
 
 // An order, or why there is none.
-#[derive(Drop)]
+#[derive(Clone, Copy)]
 pub enum OrderAnswer {
     Is(Order),
     Refused(Refusal),

@@ -1,9 +1,11 @@
 // The refusals of document 01, by name and by number.
+#![tactic(auto)]
+
 ghost use Rattle.std.specs.Prelude.{◌≡◌};
 ghost use Rattle.refusal.specs.Numbers.{number_of};
 
 // Why a call has no answer. The order is that of the numbers.
-#[derive(Drop)]
+#[derive(Clone, Copy)]
 pub enum Refusal {
     Negative,
     OverflowOrNan,

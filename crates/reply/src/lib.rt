@@ -1,4 +1,6 @@
 // How an answer goes back to a C program: as two little-endian words at the front of its buffer, or as a refusal's number.
+#![tactic(auto)]
+
 ghost use Rattle.std.specs.Prelude.{◌≡◌, ◌++◌, ◌≤◌, length, drop};
 ghost use Rattle.std.specs.Float.{binary32, binary64};
 ghost use Rattle.std.specs.Float.Ieee.{to_bits};
@@ -12,7 +14,7 @@ use sums::SumAnswer;
 use wide::{Order, WideAnswer};
 
 // What every function but the text's hands back.
-#[derive(Drop)]
+#[derive(Clone, Copy)]
 pub enum Reply {
     Words(u64, u64),
     Refused(Refusal),

@@ -1,4 +1,5 @@
 // Replays the stored answers of the Rust through the C functions and compares returned numbers and bytes.
+#![tactic(auto)]
 // A row of standard input is eight numbers of 16 hex digits: the function, four arguments, the number it must return, two words.
 mod calls;
 mod list;

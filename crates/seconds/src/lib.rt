@@ -1,4 +1,6 @@
 // Float seconds: durations as floats, and floats as durations.
+#![tactic(auto)]
+
 use refusal::Refusal;
 
 pub mod from;
@@ -7,14 +9,14 @@ pub mod out;
 mod value;
 
 // An f64, or why there is none.
-#[derive(Drop)]
+#[derive(Clone, Copy)]
 pub enum F64Answer {
     Is(f64),
     Refused(Refusal),
 }
 
 // An f32, or why there is none.
-#[derive(Drop)]
+#[derive(Clone, Copy)]
 pub enum F32Answer {
     Is(f32),
     Refused(Refusal),

@@ -1,4 +1,6 @@
 // The sum of rows that are lent as two slices, from any first row up to any end row.
+#![tactic(auto)]
+
 ghost use Rattle.std.specs.Prelude.{◌≡◌};
 ghost use Rattle.sums.specs.Sum.{sum_of, bytes_sum};
 
@@ -10,7 +12,7 @@ mod numbers;
 mod run;
 
 // The duration of a sum, or why there is none.
-#[derive(Drop)]
+#[derive(Clone, Copy)]
 pub enum SumAnswer {
     Is(Duration),
     Refused(Refusal),

@@ -8,7 +8,7 @@ use duration::Duration;
 use refusal::Refusal;
 
 // Seconds in halves of 32 bits, and nanoseconds. `bad` has bit 32 exactly where a row has 10^9 nanoseconds or more.
-#[derive(Drop)]
+#[derive(Clone, Copy)]
 pub struct Run {
     pub high: u64,
     pub low: u64,

@@ -6,14 +6,14 @@ ghost use Rattle.text.specs.Parts.{fraction_digits};
 use crate::digits::put_digits;
 
 // Nine digits, and how many stand before the zeros at the end.
-#[derive(Drop)]
+#[derive(Clone, Copy)]
 pub struct Fraction {
     pub digits: [u8; 9],
     pub count: usize,
 }
 
 // A number without some of the zeros at its end, and how many of nine digits that leaves.
-#[derive(Drop)]
+#[derive(Clone, Copy)]
 struct Front {
     rest: u32,
     count: usize,

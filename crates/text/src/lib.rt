@@ -1,4 +1,6 @@
 // The printed form of a duration, Rust's Debug, written into a lent buffer.
+#![tactic(auto)]
+
 ghost use Rattle.text.specs.Answer.{Printed};
 
 use crate::accept::accepted;
@@ -17,14 +19,14 @@ mod unit;
 mod write;
 
 // A number of digits or of characters, or none that is asked for.
-#[derive(Drop)]
+#[derive(Clone, Copy)]
 pub enum Count {
     Unset,
     Set(u64),
 }
 
 // How a duration is printed. Any numbers can be handed in: those outside the limits are refused.
-#[derive(Drop)]
+#[derive(Clone, Copy)]
 pub struct Options {
     // 1 for a plus sign in front, else 0
     pub plus: u64,
@@ -39,7 +41,7 @@ pub struct Options {
 }
 
 // The length of the text in bytes, or why there is none.
-#[derive(Drop)]
+#[derive(Clone, Copy)]
 pub enum TextAnswer {
     Is(usize),
     Refused(Refusal),

@@ -13,7 +13,7 @@ use crate::round::round;
 use crate::write::{copy, fill};
 
 // The whole part, the digits of the fraction in use, and zeros after them.
-#[derive(Drop)]
+#[derive(Clone, Copy)]
 pub struct Number {
     pub whole: u64,
     // how many digits that has

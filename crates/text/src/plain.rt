@@ -13,7 +13,7 @@ use crate::write::fill;
 use duration::Duration;
 
 // Sign, number and suffix.
-#[derive(Drop)]
+#[derive(Clone, Copy)]
 pub struct Plain {
     pub plus: usize,
     pub number: Number,
@@ -21,7 +21,7 @@ pub struct Plain {
 }
 
 // How many bytes a text has, and how many characters.
-#[derive(Drop)]
+#[derive(Clone, Copy)]
 pub struct Size {
     pub bytes: usize,
     pub characters: usize,

@@ -7,7 +7,7 @@ ghost use Rattle.text.specs.Parts.{fraction_digits, nearest_to, Rounds};
 use crate::fraction::Fraction;
 
 // A rounded fraction, and what is carried into the whole part.
-#[derive(Drop)]
+#[derive(Clone, Copy)]
 pub struct Rounded {
     pub fraction: Fraction,
     pub carry: u64,

@@ -8,7 +8,7 @@ ghost use Rattle.text.specs.Parts.{Scales};
 use crate::write::copy;
 use duration::Duration;
 
-#[derive(Drop)]
+#[derive(Clone, Copy)]
 pub enum Unit {
     Seconds,
     Millis,
@@ -17,7 +17,7 @@ pub enum Unit {
 }
 
 // A duration in its unit: a whole number of it, and the billionths below one.
-#[derive(Drop)]
+#[derive(Clone, Copy)]
 pub struct Scaled {
     pub whole: u64,
     pub part: u32,

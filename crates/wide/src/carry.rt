@@ -5,7 +5,7 @@ ghost use Rattle.wide.specs.Wide.{wide};
 use super::Wide;
 
 // A word of a result, and the 1 or 0 that goes to the word above: a carry, or a borrow.
-#[derive(Drop)]
+#[derive(Clone, Copy)]
 pub struct Carried {
     pub word: u64,
     pub over: u64,

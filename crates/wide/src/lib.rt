@@ -1,4 +1,6 @@
 // Two-word arithmetic: a number below 2^128 as a high and a low word of 64 bits. Every function here answers for every input.
+#![tactic(auto)]
+
 ghost use Rattle.std.specs.Prelude.{◌≡◌, ◌+◌, ◌*◌, ◌/◌, ◌^◌};
 ghost use Rattle.wide.specs.Wide.{wide, words, answer, difference, order, division};
 
@@ -10,32 +12,32 @@ mod product; // the words of a product
 mod shift; // shifts of words
 mod short; // division by one word
 
-#[derive(Drop)]
+#[derive(Clone, Copy)]
 pub struct Wide {
     pub hi: u64,
     pub lo: u64,
 }
 
-#[derive(Drop)]
+#[derive(Clone, Copy)]
 pub enum WideAnswer {
     Is(Wide),
     Refused(Refusal),
 }
 
-#[derive(Drop)]
+#[derive(Clone, Copy)]
 pub enum Order {
     Less,
     Equal,
     Greater,
 }
 
-#[derive(Drop)]
+#[derive(Clone, Copy)]
 pub struct Division {
     pub quotient: Wide,
     pub remainder: Wide,
 }
 
-#[derive(Drop)]
+#[derive(Clone, Copy)]
 pub enum DivAnswer {
     Divided(Division),
     Refused(Refusal),

@@ -10,7 +10,7 @@ use super::{Wide, WideAnswer};
 const HALF: u64 = 0x1_0000_0000;
 
 // A quotient of one word, with a remainder of two.
-#[derive(Drop)]
+#[derive(Clone, Copy)]
 pub struct Step {
     pub q: u64,
     pub r: Wide,

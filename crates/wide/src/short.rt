@@ -6,14 +6,14 @@ ghost use Rattle.wide.specs.Wide.{wide};
 const HALF: u64 = 0x1_0000_0000;
 
 // A quotient and a remainder that each fit one word.
-#[derive(Drop)]
+#[derive(Clone, Copy)]
 struct Step {
     q: u64,
     r: u64,
 }
 
 // A quotient of two words, and a remainder of one.
-#[derive(Drop)]
+#[derive(Clone, Copy)]
 pub struct Parts {
     pub high: u64,
     pub low: u64,
@@ -21,7 +21,7 @@ pub struct Parts {
 }
 
 // A power of two, p, and the one that makes 2^32 of it.
-#[derive(Drop)]
+#[derive(Clone, Copy)]
 struct Unit {
     p: u64,
     up: u64,
