@@ -11,7 +11,7 @@ pub seconds-requires : goal.seconds-requires
 seconds-requires c = whole-limit _ _ c.scale.ensures c.limit.ensures
 
 pub returns-in-0 : goal.returns-in-0
-returns-in-0 c = unit_is _ 0 c.in_default-1.keys1 (omega arith) (exact-nanos (omega arith) (c.from_nanos.ensures ∙ ap of_nanos (omega arith)))
+returns-in-0 c = unit_is _ 0 c.in-0.is (omega arith) (exact-nanos (omega arith) (c.from_nanos.ensures ∙ ap of_nanos (omega arith)))
 
 pub returns-in-1-to-3 : goal.returns-in-1-to-3
 returns-in-1-to-3 c = c.any_count.ensures
