@@ -1,5 +1,5 @@
 -- The loop of `sums::bytes::all_rows`: `sum` stands for the rows passed. Assumes nothing.
-use Rattle.std.proofs.Common.{length, take, ◌-◌, ◌/◌, ◌≤◌}
+use Rattle.std.proofs.Common.{take, ◌-◌, ◌≤◌}
 use Rattle.laws.specs.Bytes.{decoded}
 use Rattle.sums.specs.Sum.{rows}
 use Rattle.sums.proofs.Runs.{Held}
