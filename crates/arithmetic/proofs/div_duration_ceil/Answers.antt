@@ -15,22 +15,18 @@ unfolding ceil_of
 returns-then-b-ge1000000000 c = second_bad _ _ _ _ (omega arith) (omega arith)
 
 pub returns-then-n-eq0 : goal.returns-then-n-eq0
-returns-then-n-eq0 c = let s = c in ceil-of _ _ (omega arith) (omega arith) (one_word _ s.scaled-n.ensures c.if-n-eq0.true) s.scaled-d.ensures c.short_ceil.ensures
+returns-then-n-eq0 c = ceil-of _ _ (omega arith) (omega arith) (one_word _ c.scaled-n.ensures c.if-n-eq0.true) c.scaled-d.ensures c.short_ceil.ensures
 
 pub long_ceil-requires : goal.long_ceil-requires
-long_ceil-requires c = let s = c in (high_lt _ s.scaled-n.ensures (omega arith) (omega arith), high_lt _ s.scaled-d.ensures (omega arith) (omega arith), c.if-d-gt0.true)
+long_ceil-requires c = (high_lt _ c.scaled-n.ensures (omega arith) (omega arith), high_lt _ c.scaled-d.ensures (omega arith) (omega arith), c.if-d-gt0.true)
 
 pub returns-then-d-gt0 : goal.returns-then-d-gt0
-returns-then-d-gt0 c = let s = c in ceil-of _ _ (omega arith) (omega arith) (two_words _ s.scaled-n.ensures) s.scaled-d.ensures c.long_ceil.ensures
+returns-then-d-gt0 c = ceil-of _ _ (omega arith) (omega arith) (two_words _ c.scaled-n.ensures) c.scaled-d.ensures c.long_ceil.ensures
 
 pub returns-in-Divided : goal.returns-in-Divided
 returns-in-Divided c =
-    let m = c in
-    let s = m in
-    ceil_is _ _ (omega arith) (omega arith) m.x-1.given.0.0 (omega arith) (sym m.x-1.given.1 ∙ m.div.ensures ∙ of_counts _ _ s.scaled-n.ensures s.scaled-d.ensures) c.one_more-one.ensures c.add.ensures
+    ceil_is _ _ (omega arith) (omega arith) c.in-Divided.x (omega arith) (sym c.in-Divided.is ∙ c.div.ensures ∙ of_counts _ _ c.scaled-n.ensures c.scaled-d.ensures) c.one_more-one.ensures c.add.ensures
 
 pub returns-in-Refused : goal.returns-in-Refused
 returns-in-Refused c =
-    let d = c in
-    let s = d in
-    ceil_zero _ _ (omega arith) (omega arith) (sym c.r-1.given.1 ∙ d.div.ensures ∙ of_counts _ _ s.scaled-n.ensures s.scaled-d.ensures)
+    ceil_zero _ _ (omega arith) (omega arith) (sym c.in-Refused.is ∙ c.div.ensures ∙ of_counts _ _ c.scaled-n.ensures c.scaled-d.ensures)

@@ -4,57 +4,71 @@ use Prim.Native.Nat.{ℕ, ◌+◌, ◌*◌, ◌/◌, ◌^◌, ◌≤◌, ◌<◌
 use native.Mathlib.Nat.{lt_trans, lt_of_le_of_lt, not-le_of_lt}
 use native.Mathlib.Omega.{arith}
 use lib.Dec.{lit<}
-use Rattle.wide.specs.Wide.{wide}
+use Rattle.wide.specs.declared.Wide.{Wide}
+use Rattle.wide.specs.declared.WideAnswer.TheVariants.{Is}
+use Rattle.wide.specs.Wide.{wide, answer}
 use Rattle.wide.proofs.Laws.{answer_told, overflow_told, difference_told, underflow_told}
 use Rattle.arithmetic.proofs.Estimate.{word, count_lt, count-large, estimate_lt, estimate-low, estimate-near, divided}
-use borrow.Author.Rules.{rules}
 use Rattle.arithmetic.proofs.quotient.by_long.Goals as goal
 
-abbrev q : goal.After-upper-2 → ℕ
-q c = c.upper.result / (c.upper-2.result + 1)
+-- the first quotient: of half a word, never too large, and at most 1 too small
+record First (n d : Wide) (q : ℕ) : Type 0 where
+  small : wide n < 10 ^ 9 * 2 ^ 64
+  few : q < 2 ^ 30
+  low : q * wide d ≤ wide n
+  near : wide n < q * wide d + wide d * 2
 
-abbrev n : goal.After-upper-2 → ℕ
-n c = wide c.args.n
+first : (n d : Wide) {u v : ℕ} → n.lo < 2 ^ 64 → n.hi < 10 ^ 9 → 0 < d.hi → u ≡ wide n / 2 ^ 30 → v ≡ wide d / 2 ^ 30 → First n d (u / (v + 1))
+first n d {u} {v} b h k e f =
+    let q-is : u / (v + 1) ≡ wide n / 2 ^ 30 / (wide d / 2 ^ 30 + 1) = λ i. e i / (f i + 1) in
+    let s : wide n < 10 ^ 9 * 2 ^ 64 = count_lt n h b in
+    let l : 2 ^ 64 ≤ wide d = count-large d k in
+    record {
+        small = s;
+        few = rw q-is (estimate_lt _ _ s l);
+        low = rw q-is (estimate-low _ _ s l);
+        near = rw q-is (estimate-near _ _ s l);
+    }
 
-abbrev d : goal.After-upper-2 → ℕ
-d c = wide c.args.d
+-- the product is what the first difference takes away
+product : (q : ℕ) (d : Wide) {p : Wide} → Is p ≡ answer (wide (record { hi = 0; lo = q }) * wide d) → wide p ≡ q * wide d
+product q d e = answer_told _ e ∙ ap (λ (z : ℕ). z * wide d) (word q)
 
 pub overflow_add-q : goal.overflow_add-q
-overflow_add-q c = omega (arith, c.upper-2.ensures, count_lt c.args.d c.requires.1 (search rules))
+overflow_add-q c = omega (arith, c.upper-2.ensures, count_lt c.args.d c.requires.1 (omega arith))
 
 pub returns-in_default : goal.returns-in_default
 returns-in_default c =
-    let q-is : q c ≡ n c / 2 ^ 30 / (d c / 2 ^ 30 + 1) = λ i. c.upper.ensures i / (c.upper-2.ensures i + 1) in
-    let small : n c < 10 ^ 9 * 2 ^ 64 = count_lt _ c.requires.0 (search rules) in
-    let large : 2 ^ 64 ≤ d c = count-large _ c.requires.2 in
-    let low : q c * d c ≤ n c = rw q-is (estimate-low _ _ small large) in
-    let fits : wide (record { hi = 0; lo = q c }) * d c < 2 ^ 128 = rw (word (q c)) (lt_of_le_of_lt low (lt_trans small (lit< tt))) in
-    absurd (not-le_of_lt fits (overflow_told _ (sym c.enum_told-1.given.1 ∙ c.mul.ensures)).1)
+    let f = first c.args.n c.args.d (omega arith) c.requires.0 c.requires.2 c.upper.ensures c.upper-2.ensures in
+    let fits : wide (record { hi = 0; lo = c.upper.result / (c.upper-2.result + 1) }) * wide c.args.d < 2 ^ 128 = rw word (lt_of_le_of_lt f.low (lt_trans f.small (lit< tt))) in
+    absurd (not-le_of_lt fits (overflow_told _ (sym c.in_default.is ∙ c.mul.ensures)).1)
 
 pub returns-in_default-sub : goal.returns-in_default-sub
 returns-in_default-sub c =
-    let p = c in
-    absurd (omega (arith, (underflow_told _ _ (sym c.enum_told-in_default-sub-1.given.1 ∙ c.sub.ensures)).1, product p, low p.before.before.before))
+    let f = first c.args.n c.args.d (omega arith) c.requires.0 c.requires.2 c.upper.ensures c.upper-2.ensures in
+    let p = product (c.upper.result / (c.upper-2.result + 1)) c.args.d (sym c.in-Is.is ∙ c.mul.ensures) in
+    absurd (omega (arith, (underflow_told _ _ (sym c.in_default-sub.is ∙ c.sub.ensures)).1, p, f.low))
 
 pub returns-in_default-sub-2 : goal.returns-in_default-sub-2
 returns-in_default-sub-2 c =
-    let r = c in
-    let u = r in
-    let v = divided (n u) (d u) (q u) _ (left r) (underflow_told _ _ (sym c.enum_told-in_default-sub-2-1.given.1 ∙ c.sub-2.ensures)).1 in
-    (omega (arith, few u), v.0, v.1)
+    let q = c.upper.result / (c.upper-2.result + 1) in
+    let f = first c.args.n c.args.d (omega arith) c.requires.0 c.requires.2 c.upper.ensures c.upper-2.ensures in
+    let p = product q c.args.d (sym c.in-Is.is ∙ c.mul.ensures) in
+    let left : q * wide c.args.d + wide c.in-Is-sub.r ≡ wide c.args.n = omega (arith, difference_told _ _ (sym c.in-Is-sub.is ∙ c.sub.ensures), p) in
+    let v = divided (wide c.args.n) (wide c.args.d) q _ left (underflow_told _ _ (sym c.in_default-sub-2.is ∙ c.sub-2.ensures)).1 in
+    (omega (arith, f.few), v.0, v.1)
 
 pub overflow_add-result : goal.overflow_add-result
 overflow_add-result c =
-    let q-is : q c ≡ n c / 2 ^ 30 / (d c / 2 ^ 30 + 1) = λ i. c.upper.ensures i / (c.upper-2.ensures i + 1) in
-    let small : n c < 10 ^ 9 * 2 ^ 64 = count_lt _ c.requires.0 (search rules) in
-    let large : 2 ^ 64 ≤ d c = count-large _ c.requires.2 in
-    let few : q c < 2 ^ 30 = rw q-is (estimate_lt _ _ small large) in
-    omega (arith, few)
+    let f = first c.args.n c.args.d (omega arith) c.requires.0 c.requires.2 c.upper.ensures c.upper-2.ensures in
+    omega (arith, f.few)
 
 pub returns : goal.returns
 returns c =
-    let r = c in
-    let u = r in
-    let once = difference_told _ _ (sym c.once-1.given.1 ∙ c.sub-2.ensures) in
-    let v = divided (n u) (d u) (q u + 1) (wide c.once-1.given.0.0) (omega (arith, left r, once)) (omega (arith, left r, once, near u)) in
-    (omega (arith, few u), v.0, v.1)
+    let q = c.upper.result / (c.upper-2.result + 1) in
+    let f = first c.args.n c.args.d (omega arith) c.requires.0 c.requires.2 c.upper.ensures c.upper-2.ensures in
+    let p = product q c.args.d (sym c.in-Is.is ∙ c.mul.ensures) in
+    let left : q * wide c.args.d + wide c.in-Is-sub.r ≡ wide c.args.n = omega (arith, difference_told _ _ (sym c.in-Is-sub.is ∙ c.sub.ensures), p) in
+    let once = difference_told _ _ (sym c.in-Is-sub-2.is ∙ c.sub-2.ensures) in
+    let v = divided (wide c.args.n) (wide c.args.d) (q + 1) (wide c.in-Is-sub-2.once) (omega (arith, left, once)) (omega (arith, left, once, f.near)) in
+    (omega (arith, f.few), v.0, v.1)

@@ -6,7 +6,7 @@ use Rattle.seconds.proofs.from.try_from_secs_f32.Goals as goal
 
 fields : (c : goal.Then-x) → Pattern binary32 8 c.args.x
 unfolding of_bits
-fields c = pattern binary32 8 refl c.args.x c.well-formed.0.1 c.if-x.true
+fields c = pattern binary32 8 refl c.args.x c.well_formed.0.1 c.if-x.true
 
 pub overflow_cast-bits : goal.overflow_cast-bits
 overflow_cast-bits c = omega (arith, (fields c).bits-lt)

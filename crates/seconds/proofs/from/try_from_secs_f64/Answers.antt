@@ -7,7 +7,7 @@ use Rattle.seconds.proofs.from.try_from_secs_f64.Goals as goal
 
 fields : (c : goal.Then-x) → Pattern binary64 11 c.args.x
 unfolding of_bits
-fields c = pattern binary64 11 refl c.args.x c.well-formed.0.1 c.if-x.true
+fields c = pattern binary64 11 refl c.args.x c.well_formed.0.1 c.if-x.true
 
 pub near-requires : goal.near-requires
 near-requires c = ((fields c.before.before).led-lt, omega arith, omega arith)
