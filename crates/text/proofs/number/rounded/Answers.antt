@@ -10,13 +10,13 @@ use Rattle.text.proofs.Layouts.{padded_is, rounded_is, no_past, all_past}
 use Rattle.text.proofs.number.rounded.Goals as goal
 
 rounds : (r : goal.After-round-r) → Rounds r.args.n r.args.x r.args.p r.round-r.result
-rounds r = let s = r in r.round-r.ensures _ s.requires.0 r.fraction_is.ensures
+rounds r = let s = r in r.round-r.ensures _ s.requires.0 r.fraction_of-f.ensures
 
 carried : (r : goal.After-round-r) → r.round-r.result.carry ≤ 1
 carried r = let s = r in carry_le _ _ _ (omega arith) s.requires.0 (rounds r)
 
 pub returns-then-p-ge9 : goal.returns-then-p-ge9
-returns-then-p-ge9 c = let s = c in padded_is _ _ _ s.requires.0 c.width_of.ensures c.fraction_is.ensures (omega arith) s.requires.1
+returns-then-p-ge9 c = let s = c in padded_is _ _ _ s.requires.0 c.width_of.ensures c.fraction_of-f.ensures (omega arith) s.requires.1
 
 pub overflow_add-whole : goal.overflow_add-whole
 overflow_add-whole c = omega (arith, carried c.before.before.before)
