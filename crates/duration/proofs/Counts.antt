@@ -27,13 +27,6 @@ pub unit-bad : (count : ℕ) {unit : ℕ} → 7 < unit → Refused BadUnit ≡ f
 unfolding from_unit_number
 unit-bad count {unit} h = rw (lt-leb unit 7 h)
 
--- ---- the last of a range, where all before it are ruled out
-pub a_second : {u : ℕ} → 1 ≤ u → u ≤ 3 → (u ≡ 1 → ⊥) → (u ≡ 2 → ⊥) → u ≡ 3
-a_second l h a b = omega arith
-
-pub a_week : {u : ℕ} → 4 ≤ u → u ≤ 7 → (u ≡ 4 → ⊥) → (u ≡ 5 → ⊥) → (u ≡ 6 → ⊥) → u ≡ 7
-a_week l h a b c = omega arith
-
 -- ---- a unit of whole seconds
 pub limited : {unit : ℕ} (k l : ℕ) → unit ≡ k → l * get_or units k 0 < 2 ^ 64 * 10 ^ 9 → 2 ^ 64 * 10 ^ 9 ≤ (l + 1) * get_or units k 0
     → (l * get_or units unit 0 < 2 ^ 64 * 10 ^ 9) × (2 ^ 64 * 10 ^ 9 ≤ (l + 1) * get_or units unit 0)

@@ -1,0 +1,14 @@
+-- `duration::parts::as_nanos` meets its contract. Assumes nothing.
+use native.Mathlib.Omega.{arith}
+use Prim.Native.Nat.{◌^◌}
+use Rattle.duration.proofs.Fields.{count_is}
+use Rattle.duration.specs.Parts.{count}
+use Rattle.duration.proofs.Valid.{not_valid}
+use Rattle.duration.proofs.parts.as_nanos.Goals as goal
+
+pub returns-then-d-ge1000000000 : goal.returns-then-d-ge1000000000
+unfolding count
+returns-then-d-ge1000000000 c = let h = c.if-d-ge1000000000.true in rw not_valid
+
+pub returns : goal.returns
+returns c = count_is _ (omega arith) 1 (10 ^ 9) (omega arith) (omega arith) (omega arith) c.scaled.ensures

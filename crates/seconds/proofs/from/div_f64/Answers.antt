@@ -1,0 +1,16 @@
+-- `seconds::from::div_f64` meets its contract. Assumes nothing.
+use Rattle.std.proofs.Common.{ap, ◌∙◌, rules}
+use lib.Ieee.{Float, binary64, div}
+use Rattle.duration.proofs.Valid.{is_valid, not_valid}
+use Rattle.seconds.specs.From.{from_seconds, over_float}
+use Rattle.seconds.proofs.from.div_f64.Goals as goal
+
+pub returns-then-d-ge1000000000 : goal.returns-then-d-ge1000000000
+unfolding over_float
+returns-then-d-ge1000000000 c = let h = c.if-d-ge1000000000.true in rw not_valid
+
+pub returns : goal.returns
+unfolding over_float
+returns c =
+    let h = c.if-d-ge1000000000.false in
+    rw is_valid (c.try_from_secs_f64.ensures ∙ ap (λ (z : Float). from_seconds (div binary64 z c.args.x)) c.seconds_f64.ensures)

@@ -1,0 +1,8 @@
+-- `seconds::from::fraction::nanos` meets its contract. Assumes nothing.
+use Rattle.std.proofs.Common.{ℕ, ◌+◌, ◌^◌, ap, ◌∙◌, rules}
+use lib.Ieee.Nearest.{closest}
+use Rattle.seconds.proofs.Rounding.{words}
+use Rattle.seconds.proofs.from.fraction.nanos.Goals as goal
+
+pub returns : goal.returns
+returns c = let s = c in c.rounded.ensures ∙ ap (λ (z : ℕ). closest z (2 ^ (32 + s.args.j))) (words s.args.f)

@@ -1,0 +1,28 @@
+-- `text::digits::put_whole` meets its contract. Assumes nothing.
+use mathlib.Core.Path.{ap}
+use native.Mathlib.Omega.{arith}
+use lib.ListN.{length}
+use Rattle.laws.proofs.Written.{as_bytes}
+use Rattle.text.proofs.Lengths.{no_more, word-decimal, past-decimal}
+use Rattle.text.proofs.digits.put_whole.Goals as goal
+
+pub put_long-requires : goal.put_long-requires
+put_long-requires c =
+    let s = c in
+    omega (arith, s.requires.0, s.requires.2, no_more s.args.n c.if-past-eq0.true)
+
+pub returns-then-past-eq0 : goal.returns-then-past-eq0
+returns-then-past-eq0 c =
+    let i = c in
+    let s = i in
+    as_bytes (word-decimal s.args.n i.if-past-eq0.true s.requires.2) c.put_long.ensures
+
+pub copy-requires : goal.copy-requires
+copy-requires c =
+    let s = c in
+    omega (arith, s.requires.0, ap length (past-decimal c.if-past-eq0.false s.requires.1))
+
+pub returns : goal.returns
+returns c =
+    let s = c in
+    as_bytes (past-decimal c.if-past-eq0.false s.requires.1) c.copy.ensures
