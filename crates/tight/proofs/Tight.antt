@@ -1,5 +1,5 @@
 -- Each public function, and that its contract is tight. Assumes nothing.
--- `F.ended` is the signature of F's contract, `F.Reads.Learnt` what a caller learns from it: the toolchain makes both from the source.
+-- `specs.contracts.F.ended` is the signature of the contract of F, `proofs.F.Reads.Learnt` what a caller learns from it: the toolchain makes both from the source.
 -- A number counts the parameters before the lent buffer. host/listed compares this list with the sources.
 use Rattle.tight.specs.Tight.{Tight}
 use Rattle.tight.proofs.Laws.{plain, gives, printed, replied, said}
