@@ -1,5 +1,5 @@
 -- `seconds::out::as_secs_f32` meets its contract. Assumes nothing.
-use Rattle.std.proofs.Common.{ap, rules}
+use Rattle.std.proofs.Common.{ap}
 use Rattle.duration.proofs.Valid.{is_valid, not_valid}
 use Rattle.seconds.specs.declared.F32Answer.TheVariants.{Is}
 use Rattle.seconds.proofs.out.as_secs_f32.Goals as goal

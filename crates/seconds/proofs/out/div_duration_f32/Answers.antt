@@ -1,5 +1,5 @@
 -- `seconds::out::div_duration_f32` meets its contract. Assumes nothing.
-use Rattle.std.proofs.Common.{ap, rules}
+use Rattle.std.proofs.Common.{ap}
 use lib.Ieee.{binary32}
 use Rattle.duration.proofs.Valid.{is_valid, not_valid}
 use Rattle.seconds.specs.declared.F32Answer.TheVariants.{Is}
