@@ -1,13 +1,15 @@
 // Replays the stored answers of the Rust through the C functions and compares returned numbers and bytes.
-#![tactic(auto)]
 // A row of standard input is eight numbers of 16 hex digits: the function, four arguments, the number it must return, two words.
+#![tactic(auto)]
+
 mod calls;
 mod list;
 mod names;
 mod row;
 mod texts;
 
-use libc::{STDIN_FILENO, STDOUT_FILENO};
+use std::io;
+use std::io::{Read, Write};
 
 // More rows than this are not read.
 const MOST: u64 = 100_000;
@@ -30,36 +32,31 @@ fn agrees(text: &[u8; 136]) -> bool {
     row::word(&out, 8) == row::field(text, 7)
 }
 
-fn line(n: u64, words: &[u8]) {
-    io::print_decimal(STDOUT_FILENO, n);
-    io::write_all(STDOUT_FILENO, words);
-}
-
-// Counts the rows of each function, which stand together, and stops at the first row that differs.
-fn main() {
+// Counts the rows of each function, which stand together, and stops at the first row that differs. A row that cannot be read whole
+// is the end of the list.
+fn main(rt: HostRuntime) -> io::Result<()> {
+    let mut input = rt.stdin();
     let mut text = [0u8; 136];
     let mut rows: u64 = 0;
     let mut began: u64 = 0;
     let mut current: u64 = 0;
     while rows < MOST {
-        let got = io::read_full(STDIN_FILENO, &mut text);
-        if got < 136 {
+        if input.read_exact(&mut text).is_err() {
             break;
         }
         if !agrees(&text) {
-            line(rows + 1, b" is the first row that differs:\n");
-            io::write_all(STDOUT_FILENO, &text);
-            return;
+            println!(rt; "{} is the first row that differs:", rows + 1)?;
+            return rt.stdout().write_all(&text);
         }
         let f = row::field(&text, 0);
         if f != current {
-            names::print(current, rows - began);
+            names::print(&rt, current, rows - began)?;
             current = f;
             began = rows;
         }
         rows += 1;
     }
-    names::print(current, rows - began);
-    line(rows, b" stored answers, 0 differ\n");
-    texts::replay();
+    names::print(&rt, current, rows - began)?;
+    println!(rt; "{rows} stored answers, 0 differ")?;
+    texts::replay(&rt)
 }

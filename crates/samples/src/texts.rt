@@ -1,8 +1,10 @@
 // Replays the stored texts of the Rust through `salt_fmt`. A row is eight numbers of 16 hex digits (seconds, nanoseconds, the five
 // options and the number that is returned, those below zero in two's complement), a space and the text in hex, with '-' behind it.
 use crate::row;
-use libc::STDOUT_FILENO;
 use saltribbon::printed;
+use std::io::Read;
+use std::rt::Files;
+use std::{fs, io};
 
 // More rows than this are not read.
 const MOST: u64 = 100_000;
@@ -79,23 +81,22 @@ fn agrees(line: &[u8; 737]) -> bool {
     same(line, &out)
 }
 
-// Counts the rows of the file `texts`, and stops at the first that differs.
-pub fn replay() {
-    let file = os::open_read(b"texts");
+// Counts the rows of the file `texts`, and stops at the first that differs. A file that cannot be opened has no rows, and a row that
+// cannot be read whole is the end of the list.
+pub fn replay(rt: &(impl Files + Print)) -> io::Result<()> {
+    let Ok(mut file) = fs::open(rt, "texts") else {
+        return println!(rt; "0 stored texts, 0 differ");
+    };
     let mut line = [0u8; 737];
     let mut rows: u64 = 0;
     while rows < MOST {
-        let got = io::read_full(file, &mut line);
-        if got < 737 {
+        if file.read_exact(&mut line).is_err() {
             break;
         }
         rows += 1;
         if !agrees(&line) {
-            io::print_decimal(STDOUT_FILENO, rows);
-            io::write_all(STDOUT_FILENO, b" is the first text that differs\n");
-            return;
+            return println!(rt; "{rows} is the first text that differs");
         }
     }
-    io::print_decimal(STDOUT_FILENO, rows);
-    io::write_all(STDOUT_FILENO, b" stored texts, 0 differ\n");
+    println!(rt; "{rows} stored texts, 0 differ")
 }

@@ -24,10 +24,10 @@ first n d {u} {v} b h k e f =
     let s : wide n < 10 ^ 9 * 2 ^ 64 = count_lt n h b in
     let l : 2 ^ 64 ≤ wide d = count-large d k in
     record {
-        small = s;
-        few = rw q-is (estimate_lt _ _ s l);
-        low = rw q-is (estimate-low _ _ s l);
-        near = rw q-is (estimate-near _ _ s l);
+      small = s;
+      few = rw q-is (estimate_lt _ _ s l);
+      low = rw q-is (estimate-low _ _ s l);
+      near = rw q-is (estimate-near _ _ s l);
     }
 
 -- the product is what the first difference takes away

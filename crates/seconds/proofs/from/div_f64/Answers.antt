@@ -1,5 +1,5 @@
 -- `seconds::from::div_f64` meets its contract. Assumes nothing.
-use Rattle.std.proofs.Common.{ap, ◌∙◌, rules}
+use Rattle.std.proofs.Common.{ap, ◌∙◌}
 use lib.Ieee.{Float, binary64, div}
 use Rattle.duration.proofs.Valid.{is_valid, not_valid}
 use Rattle.seconds.specs.From.{from_seconds, over_float}

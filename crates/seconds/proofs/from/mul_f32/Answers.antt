@@ -1,5 +1,5 @@
 -- `seconds::from::mul_f32` meets its contract. Assumes nothing.
-use Rattle.std.proofs.Common.{ap, ◌∙◌, rules}
+use Rattle.std.proofs.Common.{ap, ◌∙◌}
 use Rattle.seconds.specs.From.{times_float}
 use Rattle.seconds.proofs.from.mul_f32.Goals as goal
 

@@ -1,5 +1,5 @@
 -- `seconds::from::mul_f64` meets its contract. Assumes nothing.
-use Rattle.std.proofs.Common.{ap, ◌∙◌, rules}
+use Rattle.std.proofs.Common.{ap, ◌∙◌}
 use lib.Ieee.{Float, binary64, mul}
 use Rattle.duration.proofs.Valid.{is_valid, not_valid}
 use Rattle.seconds.specs.From.{from_seconds, times_float}

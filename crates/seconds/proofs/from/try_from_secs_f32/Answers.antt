@@ -1,5 +1,5 @@
 -- `seconds::from::try_from_secs_f32` meets its contract: `proofs/Fields.antt` has what the pattern's fields say. Assumes nothing.
-use Rattle.std.proofs.Common.{refl, ◌∙◌, arith, lit<, rules}
+use Rattle.std.proofs.Common.{refl, ◌∙◌, arith, lit<}
 use lib.Ieee.{binary32, of_bits}
 use Rattle.seconds.proofs.Fields.{Pattern, pattern, nan_is, below_is}
 use Rattle.seconds.proofs.from.try_from_secs_f32.Goals as goal

@@ -1,5 +1,5 @@
 -- `seconds::nearest::digits` meets its contract: `proofs/LastDigits.antt` has what the last 18 bits count for. Assumes nothing.
-use Rattle.std.proofs.Common.{◌≡◌, ℕ, ◌+◌, ◌*◌, ◌/◌, ◌%◌, ◌^◌, ◌<◌, ◌≤◌, max, ap, ◌∙◌, inl, inr, eq-zero-or-pos, mul-one, arith, rules, le-ltb, lt-ltb}
+use Rattle.std.proofs.Common.{◌≡◌, ℕ, ◌+◌, ◌*◌, ◌/◌, ◌%◌, ◌^◌, ◌<◌, ◌≤◌, max, ap, ◌∙◌, inl, inr, eq-zero-or-pos, mul-one, arith, le-ltb, lt-ltb}
 use lib.Bits.{bit_or, or_step, or_zero_r, or_lt}
 use lib.Ieee.{binary32, size}
 use Rattle.seconds.specs.Out.{whole}

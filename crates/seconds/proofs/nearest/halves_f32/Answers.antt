@@ -1,5 +1,5 @@
 -- `seconds::nearest::halves_f32` meets its contract. Assumes nothing.
-use Rattle.std.proofs.Common.{◌≡◌, ℕ, ◌+◌, ◌*◌, ◌/◌, ◌%◌, ◌^◌, ◌∙◌, arith, lit≤, rules}
+use Rattle.std.proofs.Common.{◌≡◌, ℕ, ◌+◌, ◌*◌, ◌/◌, ◌%◌, ◌^◌, ◌∙◌, arith, lit≤}
 use lib.Ieee.{binary32, add}
 use Rattle.seconds.proofs.Operations.{halves_are}
 use Rattle.seconds.proofs.nearest.halves_f32.Goals as goal

@@ -1,5 +1,5 @@
 -- `seconds::nearest::placed_f32` meets its contract: `proofs/Placed.antt` has the law. Assumes nothing.
-use Rattle.std.proofs.Common.{arith, rules}
+use Rattle.std.proofs.Common.{arith}
 use lib.Ieee.{binary32}
 use Rattle.seconds.proofs.Placed.{is_number, unit-number, placed_is}
 use Rattle.seconds.proofs.nearest.placed_f32.Goals as goal

@@ -1,5 +1,4 @@
 -- `seconds::nearest::u32_to_f32` meets its contract. Assumes nothing.
-use Rattle.std.proofs.Common.{rules}
 use Rattle.seconds.proofs.nearest.u32_to_f32.Goals as goal
 
 pub returns : goal.returns

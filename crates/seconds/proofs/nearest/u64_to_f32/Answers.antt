@@ -1,5 +1,5 @@
 -- `seconds::nearest::u64_to_f32` meets its contract. Assumes nothing.
-use Rattle.std.proofs.Common.{ℕ, ◌+◌, ◌^◌, ◌≤◌, Bool, true, false, cond, ltb, refl, ◌∙◌, arith, rules}
+use Rattle.std.proofs.Common.{ℕ, ◌+◌, ◌^◌, ◌≤◌, Bool, true, false, cond, ltb, refl, ◌∙◌, arith}
 use lib.Ieee.{binary32, mul, of_bits}
 use Rattle.seconds.proofs.Placed.{power-number, times_power}
 use Rattle.seconds.proofs.nearest.u64_to_f32.Goals as goal

@@ -1,5 +1,5 @@
 -- `seconds::nearest::u64_to_f64` meets its contract. Assumes nothing.
-use Rattle.std.proofs.Common.{◌≡◌, ℕ, ◌+◌, ◌*◌, ◌/◌, ◌%◌, ◌^◌, ◌∙◌, arith, lit≤, rules}
+use Rattle.std.proofs.Common.{◌≡◌, ℕ, ◌+◌, ◌*◌, ◌/◌, ◌%◌, ◌^◌, ◌∙◌, arith, lit≤}
 use lib.Ieee.{binary64, add}
 use Rattle.seconds.proofs.Operations.{halves_are}
 use Rattle.seconds.proofs.nearest.u64_to_f64.Goals as goal

@@ -1,5 +1,5 @@
 -- `seconds::value::millis_f64` meets its contract. Assumes nothing.
-use Rattle.std.proofs.Common.{refl, rules}
+use Rattle.std.proofs.Common.{refl}
 use lib.Ieee.{binary64, of_int, of_bits}
 use Rattle.seconds.proofs.Values.{millis_is}
 use Rattle.seconds.proofs.value.millis_f64.Goals as goal

@@ -1,5 +1,5 @@
 -- `seconds::from::fraction::carried` meets its contract. Assumes nothing.
-use Rattle.std.proofs.Common.{arith, lit<, rules}
+use Rattle.std.proofs.Common.{arith, lit<}
 use Rattle.duration.proofs.Exact.{exact_is}
 use Rattle.seconds.proofs.from.fraction.carried.Goals as goal
 

@@ -1,5 +1,4 @@
 -- `seconds::from::fraction::large` meets its contract: `proofs/Fraction.antt` has its ways. Assumes nothing.
-use Rattle.std.proofs.Common.{rules}
 use Rattle.seconds.proofs.Fraction.{too_far, shifted}
 use Rattle.seconds.proofs.from.fraction.large.Goals as goal
 

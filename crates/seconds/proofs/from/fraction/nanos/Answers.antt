@@ -1,5 +1,5 @@
 -- `seconds::from::fraction::nanos` meets its contract. Assumes nothing.
-use Rattle.std.proofs.Common.{ℕ, ◌+◌, ◌^◌, ap, ◌∙◌, rules}
+use Rattle.std.proofs.Common.{ℕ, ◌+◌, ◌^◌, ap, ◌∙◌}
 use lib.Ieee.Nearest.{closest}
 use Rattle.seconds.proofs.Rounding.{words}
 use Rattle.seconds.proofs.from.fraction.nanos.Goals as goal

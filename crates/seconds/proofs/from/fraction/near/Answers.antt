@@ -1,5 +1,5 @@
 -- `seconds::from::fraction::near` meets its contract. Assumes nothing.
-use Rattle.std.proofs.Common.{ℕ, ◌+◌, ◌*◌, ◌/◌, ◌%◌, ◌^◌, sym, ap, ◌∙◌, mod-lt, arith, pow_pos, rules}
+use Rattle.std.proofs.Common.{ℕ, ◌+◌, ◌*◌, ◌/◌, ◌%◌, ◌^◌, sym, ap, ◌∙◌, mod-lt, arith, pow_pos}
 use lib.Pow.{shr_le}
 use Rattle.duration.specs.Meaning.{exact}
 use Rattle.seconds.proofs.Rounding.{over_64}

@@ -1,5 +1,5 @@
 -- `seconds::from::fraction::rounded` meets its contract: `proofs/Rounding.antt` has the law. Assumes nothing.
-use Rattle.std.proofs.Common.{◌≡◌, ◌-◌, ◌*◌, ◌/◌, ◌%◌, ◌^◌, ◌≤◌, arith, pow_pos, pow_mono, rules}
+use Rattle.std.proofs.Common.{◌≡◌, ◌-◌, ◌*◌, ◌/◌, ◌%◌, ◌^◌, ◌≤◌, arith, pow_pos, pow_mono}
 use Rattle.wide.proofs.Shifts.{one_shl}
 use Rattle.seconds.proofs.Rounding.{summed, added, added_le}
 use Rattle.seconds.proofs.from.fraction.rounded.Goals as goal

@@ -1,5 +1,5 @@
 -- `seconds::from::fraction::short` meets its contract: `proofs/FewDigits.antt` has the law. Assumes nothing.
-use Rattle.std.proofs.Common.{◌-◌, arith, shl_exact, rules}
+use Rattle.std.proofs.Common.{◌-◌, arith, shl_exact}
 use Rattle.seconds.proofs.FewDigits.{short_is}
 use Rattle.seconds.proofs.from.fraction.short.Goals as goal
 

@@ -1,5 +1,5 @@
 -- `seconds::from::fraction::tiny` meets its contract: `proofs/NoTie.antt` has the law. Assumes nothing.
-use Rattle.std.proofs.Common.{◌≡◌, ◌+◌, ◌-◌, ◌*◌, ◌/◌, ◌%◌, ◌^◌, ◌≤◌, arith, pow_mono, rules}
+use Rattle.std.proofs.Common.{◌≡◌, ◌+◌, ◌-◌, ◌*◌, ◌/◌, ◌%◌, ◌^◌, ◌≤◌, arith, pow_mono}
 use lib.Ieee.Nearest.{closest}
 use Rattle.wide.proofs.Shifts.{one_shl}
 use Rattle.seconds.proofs.NoTie.{upper, tiny-nanos, tiny_is, tiny_le, halved}
