@@ -1,13 +1,12 @@
 -- The bytes of a number, written one by one into a list. Assumes nothing.
 use mathlib.Core.Path.{◌≡◌, refl, sym, ap, ◌∙◌}
-use mathlib.Core.List.{List, [], ◌∷◌, ◌++◌, append_assoc, append-nil}
-use Prim.Native.Nat.{ℕ, zero, suc, ◌+◌, ◌-◌, ◌/◌, ◌%◌, ◌^◌, ◌≤◌, ◌<◌}
+use mathlib.Core.List.{List, [], ◌∷◌, ◌++◌, append_assoc}
+use Prim.Native.Nat.{ℕ, zero, suc, ◌+◌, ◌/◌, ◌%◌, ◌^◌, ◌<◌}
 use native.Mathlib.Nat.{zero-add, add_assoc, suc-add, pow-suc, div-lt_iff_lt-mul}
 use native.Mathlib.Numerals.{add-one}
 use native.Mathlib.Omega.{arith}
-use lib.ListN.{length, set, drop, get_or, replicate, drop_of_length-le}
-use lib.Seq.{drop-cons, set_at, take_all, take_at, drop_at, drop-drop}
-use borrow.Rule.Slice.PartMut.{mid_of, put_mid}
+use lib.ListN.{length, set, drop, get_or, replicate}
+use lib.Seq.{drop-cons, set_at}
 use Rattle.laws.specs.Bytes.{little_endian, UpperZeros}
 
 pub length-bytes : (k n : ℕ) → length (little_endian k n) ≡ k
@@ -17,9 +16,6 @@ length-bytes (suc k) n = ap suc (length-bytes k (n / 256))
 -- v is what is left of w after its i lowest bytes
 abbrev pub Rest : ℕ → ℕ → ℕ → Type 0
 Rest w v i = (k : ℕ) → little_endian (i + k) w ≡ little_endian i w ++ little_endian k v
-
-pub rest_all : (w : ℕ) → Rest w w 0
-rest_all w k = ap (λ (z : ℕ). little_endian z w) (zero-add k)
 
 one_more : (w v i : ℕ) → Rest w v i → little_endian (i + 1) w ≡ little_endian i w ++ (v % 256 ∷ [])
 one_more w v i h = h 1
@@ -42,19 +38,6 @@ stored w v i l h p =
     ∙ sym (append_assoc (little_endian i w) (v % 256 ∷ []) (drop (suc i) l))
     ∙ ap (λ (z : List ℕ). z ++ drop (suc i) l) (sym (one_more w v i p))
     ∙ ap (λ (z : ℕ). little_endian (i + 1) w ++ drop z l) (sym (add-one i))
-
--- a list written at the front of what follows the first n
-after_front : (n k : ℕ) (p q r : List ℕ) → length p ≡ n → length r ≤ k → put_mid n k (p ++ r) (q ++ drop n (mid_of n k (p ++ r))) ≡ p ++ q ++ drop n r
-after_front n k p q r e h = rw (take_at p r n e, drop_at p r n e, take_all k r h, drop_of_length-le r {i = k} h, append-nil (q ++ drop n r), ← append_assoc p q (drop n r))
-
--- one word at the front, then one behind it
-pub two_words : (low high : ℕ) (l a y : List ℕ) → a ≡ little_endian 8 low ++ drop 8 l → y ≡ little_endian 8 high ++ drop 8 (mid_of 8 (length a - 8) a)
-    → put_mid 8 (length a - 8) a y ≡ little_endian 8 low ++ little_endian 8 high ++ drop 16 l
-two_words low high l a y e f =
-    ap (λ (z : List ℕ). put_mid 8 (length a - 8) a z) f
-    ∙ ap (λ (z : List ℕ). put_mid 8 (length z - 8) z (little_endian 8 high ++ drop 8 (mid_of 8 (length z - 8) z))) e
-    ∙ after_front 8 (length (little_endian 8 low ++ drop 8 l) - 8) (little_endian 8 low) (little_endian 8 high) (drop 8 l) refl (omega arith)
-    ∙ ap (λ (z : List ℕ). little_endian 8 low ++ little_endian 8 high ++ z) (drop-drop 8 8 l)
 
 -- ---- a number below 256 ^ j has zeros above its j bytes
 all-zeros : (k : ℕ) → little_endian k 0 ≡ replicate k 0
