@@ -1,6 +1,7 @@
 // The operations of `wide` as C functions, for the judge of the tests alone: no part of the product. A number goes in as its low
-#![tactic(auto)]
 // and its high word. Each function returns 0 or the refusal's number, and writes four words into `out`, or on a refusal none.
+#![tactic(auto)]
+
 ghost use Rattle.std.specs.Prelude.{◌≡◌, ◌+◌, ◌*◌, ◌/◌, ◌^◌};
 ghost use Rattle.wide.specs.Wide.{wide, words, answer, difference, order, division};
 ghost use Rattle.door.specs.Door.{pair, wide_reply, answer_reply, order_reply, division_reply, Gives};
@@ -21,6 +22,7 @@ fn of_wide(w: Wide) -> Reply
     Reply::Four(w.lo, w.hi, 0, 0)
 }
 
+#[tactic(auto, unfolding(crate::specs::Door::answer_reply))]
 fn of_answer(a: WideAnswer) -> Reply
     ensures { result ≡ answer_reply a }
 {
@@ -40,6 +42,7 @@ fn of_order(o: Order) -> Reply
     }
 }
 
+#[tactic(auto, unfolding(crate::specs::Door::division_reply))]
 fn of_division(a: DivAnswer) -> Reply
     ensures { result ≡ division_reply a }
 {
@@ -54,6 +57,7 @@ fn of_division(a: DivAnswer) -> Reply
 }
 
 // The reply, written and numbered: what every function below ends with.
+#[tactic(auto, unfolding(crate::specs::Door::code_of, crate::specs::Door::left_in))]
 fn finish(reply: Reply, out: &mut [u64; 4]) -> u32
     ensures { Gives reply result out.old out.new }
 {

@@ -34,13 +34,13 @@ use Rattle.text.specs.Text.{text}
 use Rattle.text.specs.Answer.{fitted, answer_of}
 use Rattle.reply.specs.declared.Reply.TheVariants as C
 use Rattle.reply.specs.Reply.{code_of, left_in, duration_reply, sum_reply, wide_reply, word_reply, part_reply, flag_reply, order_reply, f64_reply, f32_reply}
-use Rattle.rules.specs.Refusals.{Grounds, any, holds, order, first_of, chosen, met, Ruled, bad, converted, listed, bad_options, text_code, Table, NeverBad, Saturates, Unchanged}
+use Rattle.rules.specs.Refusals.{Grounds, any, holds, order, first_holding, chosen, met, Ruled, bad, converted, listed, bad_options, text_code, Table, NeverBad, Saturates, Unchanged}
 use Rattle.rules.proofs.Checks.{◌also◌, differ, neither, exactly}
 use Rattle.rules.proofs.Conditions.{not_above, not_reached, is_valid, are_valid, at_most, all_valid, is_within, are_whole, are_accepted}
 use Rattle.rules.proofs.Floats as Floats
 
 -- ---- a condition that does not hold chooses nothing
-same : (l m : Grounds) → ((n : ℕ) → holds l n ≡ holds m n) → (ns : List ℕ) → first_of l ns ≡ first_of m ns
+same : (l m : Grounds) → ((n : ℕ) → holds l n ≡ holds m n) → (ns : List ℕ) → first_holding l ns ≡ first_holding m ns
 same l m h [] = refl
 same l m h (n ∷ ns) = λ i. cond (h n i) n (same l m h ns i)
 

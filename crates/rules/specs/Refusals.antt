@@ -30,13 +30,13 @@ abbrev pub order : List ℕ
 order = 10 ∷ 11 ∷ 8 ∷ 7 ∷ 6 ∷ 1 ∷ 2 ∷ 3 ∷ 4 ∷ 5 ∷ 9 ∷ []
 
 -- the first of the numbers whose condition holds, or 0
-abbrev pub first_of : Grounds → List ℕ → ℕ
-first_of l [] = 0
-first_of l (n ∷ ns) = cond (holds l n) n (first_of l ns)
+abbrev pub first_holding : Grounds → List ℕ → ℕ
+first_holding l [] = 0
+first_holding l (n ∷ ns) = cond (holds l n) n (first_holding l ns)
 
 -- the number that a call returns: a refusal's, or 0 for an answer
 abbrev pub chosen : Grounds → ℕ
-chosen l = first_of l order
+chosen l = first_holding l order
 
 -- a number is given exactly when its condition holds and none that is looked at before it does
 abbrev pub Exactly : Type 0

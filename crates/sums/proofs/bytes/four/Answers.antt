@@ -4,5 +4,4 @@ use Rattle.laws.proofs.Decoded.{four}
 use Rattle.sums.proofs.bytes.four.Goals as goal
 
 pub returns : goal.returns
-returns c = let s = c in
-    omega (arith, four s.args.p s.args.b.now s.requires)
+returns c = omega (arith, four c.args.p c.args.b.now c.requires)

@@ -4,5 +4,4 @@ use Rattle.sums.proofs.Runs.{joined}
 use Rattle.sums.proofs.run.join.Goals as goal
 
 pub returns : goal.returns
-returns c = let s = c in
-    joined s.args.t s.args.b refl refl c.least-high.ensures refl
+returns c = joined c.args.t c.args.b refl refl c.least-high.ensures refl

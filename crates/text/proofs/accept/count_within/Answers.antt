@@ -4,8 +4,8 @@ use Rattle.text.proofs.accept.count_within.Goals as goal
 
 pub returns-in-Unset : goal.returns-in-Unset
 unfolding within
-returns-in-Unset c = rw c.enum_told-1.given.1
+returns-in-Unset c = rw c.in-Unset.is
 
 pub returns-in-Set : goal.returns-in-Set
 unfolding within
-returns-in-Set c = rw c.c-1.given.1
+returns-in-Set c = rw c.in-Set.is

@@ -4,10 +4,10 @@ use Rattle.text.proofs.Layouts.{of_unset, of-set}
 use Rattle.text.proofs.number.number_of.Goals as goal
 
 pub rounded-requires : goal.rounded-requires
-rounded-requires c = (c.requires.0, within-set c.precision-1.given.1 c.requires.1)
+rounded-requires c = (c.requires.0, within-set c.in-Set.is c.requires.1)
 
 pub returns-in-Unset : goal.returns-in-Unset
-returns-in-Unset c = of_unset _ c.enum_told-1.given.1 c.exactly.ensures
+returns-in-Unset c = of_unset _ c.in-Unset.is c.exactly.ensures
 
 pub returns-in-Set : goal.returns-in-Set
-returns-in-Set c = of-set _ c.precision-1.given.1 c.rounded.ensures
+returns-in-Set c = of-set _ c.in-Set.is c.rounded.ensures

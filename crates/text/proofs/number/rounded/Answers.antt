@@ -9,20 +9,21 @@ use Rattle.text.proofs.Lengths.{word-most}
 use Rattle.text.proofs.Layouts.{padded_is, rounded_is, no_past, all_past}
 use Rattle.text.proofs.number.rounded.Goals as goal
 
-rounds : (r : goal.After-round-r) → Rounds r.args.n r.args.x r.args.p r.round-r.result
-rounds r = let s = r in r.round-r.ensures _ s.requires.0 r.fraction_is.ensures
-
-carried : (r : goal.After-round-r) → r.round-r.result.carry ≤ 1
-carried r = let s = r in carry_le _ _ _ (omega arith) s.requires.0 (rounds r)
-
 pub returns-then-p-ge9 : goal.returns-then-p-ge9
-returns-then-p-ge9 c = let s = c in padded_is _ _ _ s.requires.0 c.width_of.ensures c.fraction_is.ensures (omega arith) s.requires.1
+returns-then-p-ge9 c = padded_is _ _ _ c.requires.0 c.width_of.ensures c.fraction_of-f.ensures (omega arith) c.requires.1
 
 pub overflow_add-whole : goal.overflow_add-whole
-overflow_add-whole c = omega (arith, carried c.before.before.before)
+overflow_add-whole c =
+    let r : Rounds c.args.n c.args.x c.args.p c.round-r.result = c.round-r.ensures _ c.requires.0 c.fraction_of-f.ensures in
+    omega (arith, carry_le _ _ _ (omega arith) c.requires.0 r)
 
 pub returns-then-n-lt18446744073709551615 : goal.returns-then-n-lt18446744073709551615
-returns-then-n-lt18446744073709551615 c = let r = c in rounded_is _ _ _ _ 0 (omega arith) (rounds r) (omega arith) (no_past _) c.width_of-then-n-lt18446744073709551615.ensures
+returns-then-n-lt18446744073709551615 c =
+    let r : Rounds c.args.n c.args.x c.args.p c.round-r.result = c.round-r.ensures _ c.requires.0 c.fraction_of-f.ensures in
+    rounded_is _ _ _ _ 0 (omega arith) r (omega arith) (no_past _) c.width_of-then-n-lt18446744073709551615.ensures
 
 pub returns : goal.returns
-returns c = let r = c in rounded_is _ _ _ _ _ (omega arith) (rounds r) refl (all_past (omega arith) (carried r)) (word-most (omega arith))
+returns c =
+    let r : Rounds c.args.n c.args.x c.args.p c.round-r.result = c.round-r.ensures _ c.requires.0 c.fraction_of-f.ensures in
+    let one : c.round-r.result.carry ≤ 1 = carry_le _ _ _ (omega arith) c.requires.0 r in
+    rounded_is _ _ _ _ _ (omega arith) r refl (all_past (omega arith) one) (word-most (omega arith))

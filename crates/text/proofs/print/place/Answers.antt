@@ -30,4 +30,4 @@ returns c =
     let e = c in
     let f = e in
     let k = f in
-    as_bytes (pads _ _ _ _ k.front_of-front.ensures) (then (then f.fill-i.ensures e.emit-j.ensures) c.fill-i.ensures)
+    as_bytes (pads _ _ _ _ k.front_of-front.ensures) (then (then f.fill-i.ensures e.emit-j.ensures) c.fill.ensures)
