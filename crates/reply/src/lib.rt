@@ -44,6 +44,7 @@ fn put_words(out: &mut [u8], low: u64, high: u64)
 }
 
 // The room is tested last, and a refusal writes nothing.
+#[tactic(auto, unfolding(crate::specs::Reply::code_of, crate::specs::Reply::left_in))]
 pub fn send(a: Reply, out: &mut [u8]) -> u32
     ensures { Replied out.old out.new a result }
 {

@@ -1,4 +1,6 @@
 // C functions that make a duration: from counts, and the six constants.
+#![tactic(auto, unfolding(duration::specs::Meaning::exact))]
+
 ghost use Rattle.std.specs.Prelude.{◌+◌, ◌*◌, ◌^◌};
 ghost use Rattle.wide.specs.Wide.{wide};
 ghost use Rattle.duration.specs.Meaning.{exact, most};
