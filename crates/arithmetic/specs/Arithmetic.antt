@@ -1,5 +1,6 @@
 -- Integer arithmetic over whole nanoseconds; of a pair that is no duration, BadDuration. Assumes nothing.
-use Rattle.laws.specs.Names.{ℕ, ◌+◌, ◌*◌, ◌-◌, ◌/◌, min, max, cond, ◌&&◌, leb, eqb, number_of, Underflow, ZeroDivisor, BadDuration, WideAnswer, words, Duration, Answer, Is, Refused, N, valid, most, of_nanos, exact}
+use Rattle.std.specs.Prelude.{ℕ, ◌+◌, ◌*◌, ◌-◌, ◌/◌, min, max, cond, ◌&&◌, leb, eqb}
+use Rattle.laws.specs.Names.{number_of, Underflow, ZeroDivisor, BadDuration, WideAnswer, words, Duration, Answer, Is, Refused, N, valid, most, of_nanos, exact}
 
 unfoldable pub added : Duration → Duration → Answer
 added a b = cond (valid a && valid b) (exact (N a + N b)) (Refused BadDuration)

@@ -1,5 +1,6 @@
 -- Two facts of floats in that the definition leaves open. Assumes nothing.
-use Rattle.laws.specs.Names.{◌/◌, ◌≡◌, T, Float, binary32, binary64, fits, num, den, Overflow, Duration, Is, Refused}
+use Rattle.std.specs.Prelude.{◌/◌, ◌≡◌, T}
+use Rattle.laws.specs.Names.{Float, binary32, binary64, fits, num, den, Overflow, Duration, Is, Refused}
 use Rattle.seconds.specs.From.{from_seconds}
 
 -- an f32 never rounds up into the next second: the seconds of what it gives are its whole part

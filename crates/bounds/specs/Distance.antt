@@ -1,5 +1,6 @@
 -- What the statements here share. Assumes nothing.
-use Rattle.laws.specs.Names.{ℕ, ◌+◌, ◌-◌, ◌^◌, ◌<◌, Duration}
+use Rattle.std.specs.Prelude.{ℕ, ◌+◌, ◌-◌, ◌^◌, ◌<◌}
+use Rattle.laws.specs.Names.{Duration}
 
 -- the distance of two whole numbers: one of the two differences is 0, since a difference of natural numbers stops there
 abbrev pub apart : ℕ → ℕ → ℕ

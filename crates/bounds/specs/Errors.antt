@@ -1,5 +1,6 @@
 -- How far the six floats out are from what they stand for, over whole numbers: a finite float x is the fraction num x / den x. Assumes nothing.
-use Rattle.laws.specs.Names.{ℕ, ◌-◌, ◌*◌, ◌^◌, ◌≤◌, ◌<◌, ◌≡◌, ◌⊎◌, false, cond, eqb, Float, nan, inf, Format, prec, emax, HasValue, num, den, Duration, N}
+use Rattle.std.specs.Prelude.{ℕ, ◌-◌, ◌*◌, ◌^◌, ◌≤◌, ◌<◌, ◌≡◌, ◌⊎◌, false, cond, eqb}
+use Rattle.laws.specs.Names.{Float, nan, inf, Format, prec, emax, HasValue, num, den, Duration, N}
 use Rattle.seconds.specs.Out.{seconds_as, millis_as, quotient_as}
 use Rattle.bounds.specs.Distance.{apart, IsDuration}
 

@@ -1,5 +1,6 @@
 -- Demand 3: a duration as f64 seconds, and back. Stated over the conversions' own definitions. Assumes nothing.
-use Rattle.laws.specs.Names.{◌+◌, ◌-◌, ◌*◌, ◌^◌, ◌≤◌, ◌<◌, ◌≡◌, false, binary64, HasValue, num, den, OverflowOrNan, Duration, Is, Refused, N}
+use Rattle.std.specs.Prelude.{◌+◌, ◌-◌, ◌*◌, ◌^◌, ◌≤◌, ◌<◌, ◌≡◌, false}
+use Rattle.laws.specs.Names.{binary64, HasValue, num, den, OverflowOrNan, Duration, Is, Refused, N}
 use Rattle.seconds.specs.From.{seconds_as, from_seconds}
 use Rattle.bounds.specs.Distance.{apart, IsDuration}
 

@@ -1,5 +1,5 @@
 -- How each answer of `wide` goes out through C: four words, or a refusal's number and nothing written. Assumes nothing.
-use Rattle.refusal.specs.Library.{ℕ, ◌≡◌, List, [], ◌∷◌}
+use Rattle.std.specs.Prelude.{ℕ, ◌≡◌, List, [], ◌∷◌}
 use Rattle.refusal.specs.Numbers.{number_of}
 use Rattle.wide.specs.declared.{Wide.Wide, Order.Order, WideAnswer.WideAnswer, DivAnswer.DivAnswer}
 use Rattle.door.specs.declared.Reply.{Reply}

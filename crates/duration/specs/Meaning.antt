@@ -1,5 +1,5 @@
 -- What a duration means, and the exact answer of a whole number of nanoseconds. Assumes nothing.
-use Rattle.refusal.specs.Library.{ℕ, ◌+◌, ◌*◌, ◌-◌, ◌/◌, ◌%◌, ◌^◌, Bool, cond, leb, ltb}
+use Rattle.std.specs.Prelude.{ℕ, ◌+◌, ◌*◌, ◌-◌, ◌/◌, ◌%◌, ◌^◌, Bool, cond, leb, ltb}
 use Rattle.refusal.specs.declared.Refusal.TheVariants.{Overflow}
 pub use Rattle.duration.specs.declared.{Duration.Duration, Answer.Answer}
 

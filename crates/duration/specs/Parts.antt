@@ -1,5 +1,5 @@
 -- What is read off a duration, over its whole nanoseconds; of a pair that is none, BadDuration. Assumes nothing.
-use Rattle.refusal.specs.Library.{ℕ, ◌/◌, ◌%◌, ◌^◌, cond, ◌&&◌, eqb}
+use Rattle.std.specs.Prelude.{ℕ, ◌/◌, ◌%◌, ◌^◌, cond, ◌&&◌, eqb}
 use Rattle.refusal.specs.declared.Refusal.TheVariants.{BadDuration}
 use Rattle.wide.specs.declared.WideAnswer.{WideAnswer}
 use Rattle.wide.specs.Wide.{words, order}

@@ -1,5 +1,5 @@
 -- The units by their number. Assumes nothing.
-use Rattle.refusal.specs.Library.{ℕ, ◌*◌, ◌^◌, cond, List, [], ◌∷◌, get_or, leb}
+use Rattle.std.specs.Prelude.{ℕ, ◌*◌, ◌^◌, cond, List, [], ◌∷◌, get_or, leb}
 use Rattle.refusal.specs.declared.Refusal.TheVariants.{BadUnit}
 use Rattle.duration.specs.Meaning.{Answer, exact}
 

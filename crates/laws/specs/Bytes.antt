@@ -1,5 +1,5 @@
 -- A number as bytes, and numbers one after the other. Assumes nothing.
-use Rattle.refusal.specs.Library.{ℕ, zero, suc, ◌+◌, ◌*◌, ◌/◌, ◌%◌, ◌^◌, ◌<◌, ◌≡◌, List, [], ◌∷◌, ◌++◌, length, take, drop, get_or, replicate}
+use Rattle.std.specs.Prelude.{ℕ, zero, suc, ◌+◌, ◌*◌, ◌/◌, ◌%◌, ◌^◌, ◌<◌, ◌≡◌, List, [], ◌∷◌, ◌++◌, length, take, drop, get_or, replicate}
 
 -- the k lowest bytes of n, the lowest first
 abbrev pub little_endian : ℕ → ℕ → List ℕ

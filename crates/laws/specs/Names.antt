@@ -1,6 +1,5 @@
--- The names that the specs above the duration are written in, passed on from one place: the library's, then those of refusals, two words, durations and bytes. Assumes nothing.
-pub use Rattle.refusal.specs.Library.{ℕ, zero, suc, ◌+◌, ◌*◌, ◌-◌, ◌/◌, ◌%◌, ◌^◌, ◌≤◌, ◌<◌, min, max, ◌≡◌, Bool, true, false, cond, not, ◌&&◌, ◌||◌, List, [], ◌∷◌, ◌++◌, length, take, drop, get_or, T, leb, ltb, eqb}
-pub use Rattle.std.specs.Prelude.{◌⊎◌, ◌↔◌, ℤ, pos, negsuc, neg_ℤ, Float}
+-- The names that the specs above the duration are written in, passed on from one place: the library's of numbers and floats, then those of refusals, two words, durations and bytes. The library's operators come from its Prelude. Assumes nothing.
+pub use Rattle.std.specs.Prelude.{ℤ, pos, negsuc, neg_ℤ, Float}
 pub use Rattle.std.specs.Float.{nan, inf, fin, Format, binary32, binary64}
 pub use Rattle.std.specs.Float.Ieee.{prec, emax, fits, up, down, of_int, of_bits, to_bits, lt, le, is_nan, add, mul, div, Exact.HasValue, Positive.num, Positive.den, Nearest.closest}
 pub use Rattle.refusal.specs.Numbers.{number_of}

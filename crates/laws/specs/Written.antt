@@ -1,5 +1,5 @@
 -- A list written into a list. Assumes nothing.
-use Rattle.refusal.specs.Library.{ℕ, ◌+◌, ◌≡◌, List, length, replicate}
+use Rattle.std.specs.Prelude.{ℕ, ◌+◌, ◌≡◌, List, length, replicate}
 use Rattle.std.proofs.lemmas.List.Edits.{sets}
 
 -- xs with ys written from index i on, every other element as it was

@@ -1,3 +1,2 @@
--- What the contract of `refusal` cites, and the library's names for every crate's specs.
-pub mod Library
+-- What the contract of `refusal` cites.
 pub mod Numbers

@@ -1,5 +1,5 @@
 -- The number of each refusal, as document 01's table has it. Assumes nothing.
-use Rattle.refusal.specs.Library.{ℕ}
+use Rattle.std.specs.Prelude.{ℕ}
 use Rattle.refusal.specs.declared.Refusal.{Refusal}
 
 abbrev pub number_of : Refusal → ℕ

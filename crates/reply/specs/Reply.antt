@@ -1,5 +1,6 @@
 -- What a C function returns and leaves in the lent buffer: every answer is two words, or a refusal. Assumes nothing.
-use Rattle.laws.specs.Names.{ℕ, ◌≡◌, cond, List, ◌++◌, length, drop, ltb, binary32, binary64, to_bits, number_of, NoRoom, WideAnswer, Answer, little_endian}
+use Rattle.std.specs.Prelude.{ℕ, ◌≡◌, cond, List, ◌++◌, length, drop, ltb}
+use Rattle.laws.specs.Names.{binary32, binary64, to_bits, number_of, NoRoom, WideAnswer, Answer, little_endian}
 use Rattle.wide.specs.declared.Order.{Order}
 use Rattle.duration.specs.declared.{WordAnswer.WordAnswer, PartAnswer.PartAnswer, FlagAnswer.FlagAnswer, OrderAnswer.OrderAnswer}
 use Rattle.sums.specs.declared.SumAnswer.{SumAnswer}

@@ -1,5 +1,6 @@
 -- Document 01's refusal table: the order of checks, and every definition that a contract cites beside what the table says of it. Assumes nothing.
-use Rattle.laws.specs.Names.{ℕ, suc, ◌+◌, ◌-◌, ◌*◌, ◌%◌, ◌^◌, ◌≤◌, ◌<◌, min, ◌≡◌, ◌↔◌, Bool, true, false, cond, not, ◌&&◌, ◌||◌, List, [], ◌∷◌, ◌++◌, length, take, drop, get_or, T, leb, ltb, eqb, pos, Float, fin, binary64, lt, le, is_nan, fits, mul, div, number_of, Refusal, Negative, OverflowOrNan, Overflow, Underflow, ZeroDivisor, BadRow, BadRange, BadOptions, NoRoom, BadDuration, BadUnit, Duration, Is, N, valid, most, of_nanos, exact, decoded}
+use Rattle.std.specs.Prelude.{ℕ, suc, ◌+◌, ◌-◌, ◌*◌, ◌%◌, ◌^◌, ◌≤◌, ◌<◌, min, ◌≡◌, ◌↔◌, Bool, true, false, cond, not, ◌&&◌, ◌||◌, List, [], ◌∷◌, ◌++◌, length, take, drop, get_or, T, leb, ltb, eqb}
+use Rattle.laws.specs.Names.{pos, Float, fin, binary64, lt, le, is_nan, fits, mul, div, number_of, Refusal, Negative, OverflowOrNan, Overflow, Underflow, ZeroDivisor, BadRow, BadRange, BadOptions, NoRoom, BadDuration, BadUnit, Duration, Is, N, valid, most, of_nanos, exact, decoded}
 use Rattle.wide.specs.Wide.{answer, difference, division}
 use Rattle.door.specs.Door as Door
 use Rattle.duration.specs.Units.{units, from_unit_number}

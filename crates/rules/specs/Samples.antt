@@ -1,5 +1,6 @@
 -- The samples that document 01 marks as proved, as one table. Assumes nothing.
-use Rattle.laws.specs.Names.{ℕ, ◌-◌, ◌^◌, ◌≡◌, true, false, List, [], ◌∷◌, pos, negsuc, Float, inf, fin, binary64, of_bits, Negative, OverflowOrNan, WideAnswer, words, Duration, Answer, Is, Refused, N}
+use Rattle.std.specs.Prelude.{ℕ, ◌-◌, ◌^◌, ◌≡◌, true, false, List, [], ◌∷◌}
+use Rattle.laws.specs.Names.{pos, negsuc, Float, inf, fin, binary64, of_bits, Negative, OverflowOrNan, WideAnswer, words, Duration, Answer, Is, Refused, N}
 use Rattle.arithmetic.specs.Arithmetic.{floor_of, ceil_of}
 use Rattle.seconds.specs.From.{seconds_as, from_seconds}
 use Rattle.text.specs.declared.Count.{Count}

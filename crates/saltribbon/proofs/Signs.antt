@@ -1,78 +1,23 @@
--- Signed numbers at the text's C function: options that come in, and the number that goes out. Assumes nothing.
-use mathlib.Core.Path.{◌≡◌, refl, sym, ap, ◌∙◌}
+-- Signed numbers at the text's C function: every answer's length is one, and the numbers that are accepted. Assumes nothing.
+use mathlib.Core.Path.{◌≡◌, refl, ap, ◌∙◌}
 use mathlib.Core.Bool.{Bool, true, false, cond, ◌&&◌}
-use mathlib.Core.List.{List}
 use Prim.Native.Nat.{ℕ, zero, suc, ◌-◌, ◌^◌, ◌≤◌, ◌<◌}
-use native.Mathlib.Nat.{lt_of_le_of_lt, lt_of_lt_of_le}
+use native.Mathlib.Nat.{lt_of_le_of_lt}
 use native.Mathlib.Omega.{arith}
 use borrow.Author.Tests.{ltb-true, lt-leb}
-use lib.Dec.{T, leb, lit<, lit≤, leb-zero, leb-suc-zero}
-use lib.IntN.{ℤ, pos, negsuc, neg_ℤ, ◌-ℤ◌, nat_abs, +ℤ_idl}
+use lib.Dec.{leb, lit<, leb-zero, leb-suc-zero}
+use lib.IntN.{ℤ, pos, negsuc}
 use lib.ListN.{length}
-use lib.Signed.{lt_z, non_neg}
-use mir.Syntax.{w64}
-use mir.Val.{Fits, SFits, of_z, to_z}
-use mir.Facts.{to_z-of_z, to_z_pos}
-use Rattle.refusal.specs.Numbers.{number_of}
-use Rattle.refusal.specs.declared.Refusal.{Refusal}
 use Rattle.refusal.specs.declared.Refusal.TheVariants.{BadOptions, NoRoom, BadDuration}
 use Rattle.duration.specs.declared.Duration.{Duration}
 use Rattle.duration.specs.Meaning.{N, valid, most}
-use Rattle.text.specs.declared.Count.TheVariants.{Unset, Set}
 use Rattle.text.specs.declared.Options.{Options}
-use Rattle.text.specs.declared.TextAnswer.{TextAnswer}
 use Rattle.text.specs.declared.TextAnswer.TheVariants.{Is, Refused}
 use Rattle.text.specs.Options.{limit, within, accepts}
 use Rattle.text.specs.Text.{text}
-use Rattle.text.specs.Answer.{fitted, answer_of, left_in, Printed}
+use Rattle.text.specs.Answer.{fitted, answer_of}
 use Rattle.text.proofs.Theorems.{longest}
-use Rattle.saltribbon.specs.Said.{option_of, count_of, signed_of, Short, Said, between, AcceptedNumbers}
-
--- ---- a number that comes in
-pub below : {y : ℤ} (z : ℤ) → y ≡ z → lt_z y (pos 0) ≡ true → 2 ^ 64 - 1 ≡ option_of z
-below (pos n) e h = absurd (omega (arith, ltb-true n 0 (ap (λ (x : ℤ). lt_z x (pos 0)) (sym e) ∙ h)))
-below (negsuc n) e h = refl
-
-sign : {y : ℤ} (n : ℕ) → y ≡ negsuc n → lt_z y (pos 0) ≡ false → ⊥
-sign n e h = let z : true ≡ false = ap (λ (x : ℤ). lt_z x (pos 0)) (sym e) ∙ h in let w : ◌≡◌ {A = ℕ} 0 1 = cc in omega arith
-
-pub above : {y : ℤ} (z : ℤ) → y ≡ z → lt_z y (pos 0) ≡ false → SFits w64 z → T (non_neg y) × Fits w64 (nat_abs y)
-above (pos n) e h f = rw e (tt, record { fits = lt_of_lt_of_le f.sfits (lit≤ tt) })
-above (negsuc n) e h f = absurd (sign n e h)
-
-pub itself : {y : ℤ} (z : ℤ) → y ≡ z → lt_z y (pos 0) ≡ false → nat_abs y ≡ option_of z
-itself (pos n) e h = rw e
-itself (negsuc n) e h = absurd (sign n e h)
-
-pub is_none : (z : ℤ) → SFits w64 z → of_z w64 z ≡ 2 ^ 64 - 1 → Unset ≡ count_of z
-is_none (pos n) f h = absurd (omega (arith, f.sfits))
-is_none (negsuc zero) f h = refl
-is_none (negsuc (suc n)) f h = absurd (omega (arith, f.sfits))
-
-pub is_some : (z : ℤ) {r : ℕ} → (of_z w64 z ≡ 2 ^ 64 - 1 → ⊥) → r ≡ option_of z → Set r ≡ count_of z
-is_some (pos n) h e = ap Set e
-is_some (negsuc zero) h e = absurd (h refl)
-is_some (negsuc (suc n)) h e = ap Set e
-
--- ---- the number that goes out
-pub short_is : {a : TextAnswer} {k : ℕ} → a ≡ Is k → Short a → k < 2 ^ 63
-short_is e h = rw e at h
-
-pub sent_length : {a : TextAnswer} {k : ℕ} → a ≡ Is k → Short a → to_z w64 k ≡ signed_of a
-sent_length {a} {k} e h = to_z_pos w64 (short_is e h) ∙ ap signed_of (sym e)
-
-negated_fits : (n : ℕ) → n < 2 ^ 63 → SFits w64 (neg_ℤ (pos n))
-negated_fits zero h = record { sfits = h }
-negated_fits (suc n) h = record { sfits = omega arith }
-
-negated : (n : ℕ) → n < 2 ^ 63 → pos 0 -ℤ to_z w64 n ≡ neg_ℤ (pos n)
-negated n h = ap (λ (z : ℤ). pos 0 -ℤ z) (to_z_pos w64 h) ∙ +ℤ_idl (neg_ℤ (pos n))
-
-pub refusal_fits : {n : ℕ} → n < 2 ^ 63 → SFits w64 (pos 0 -ℤ to_z w64 n)
-refusal_fits {n} h = rw (negated n h) (negated_fits n h)
-
-pub sent_refusal : {a : TextAnswer} {f : Refusal} {n : ℕ} → a ≡ Refused f → n ≡ number_of f → n < 2 ^ 63 → to_z w64 (of_z w64 (pos 0 -ℤ to_z w64 n)) ≡ signed_of a
-sent_refusal {a} {f} {n} e g h = to_z-of_z (refusal_fits h) ∙ negated n h ∙ ap (λ (k : ℕ). neg_ℤ (pos k)) g ∙ ap signed_of (sym e)
+use Rattle.saltribbon.specs.Said.{option_of, count_of, Short, between, AcceptedNumbers}
 
 -- ---- every answer's length is a signed word
 pub short : (d : Duration) (o : Options) (room : ℕ) → d.secs < 2 ^ 64 → Short (answer_of d o room)
@@ -84,12 +29,6 @@ short d o room h = go (valid d) (accepts o) (leb (length (text (N d) o)) room) r
     go true true false e f = tt
     go true false c e f = tt
     go false b c e f = tt
-
-pub said : {xs zs : List ℕ} {d : Duration} {o : Options} {a : TextAnswer} {r : ℤ} (p : Options) → Printed xs zs d o a → o ≡ p → r ≡ signed_of a → Said xs zs d p r
-said {xs} {zs} {d} {o} {a} {r} p h e g = rw (← e) record {
-  code = g ∙ ap signed_of h.answer;
-  left = h.left ∙ ap (λ (b : TextAnswer). left_in b (text (N d) o) xs) h.answer;
-}
 
 -- ---- which numbers are accepted
 up_to : (z : ℤ) (c : ℕ) → c < 2 ^ 64 - 1 → leb (option_of z) c ≡ between (pos 0) (pos c) z

@@ -1,6 +1,7 @@
 -- What the text's C function takes, returns and leaves in the lent buffer. Assumes nothing.
 use Rattle.std.specs.Int.Signed.{le_z}
-use Rattle.laws.specs.Names.{ℕ, zero, suc, ◌-◌, ◌^◌, ◌<◌, ◌≡◌, Bool, ◌&&◌, List, length, ℤ, pos, negsuc, neg_ℤ, number_of, Duration, N}
+use Rattle.std.specs.Prelude.{ℕ, zero, suc, ◌-◌, ◌^◌, ◌<◌, ◌≡◌, Bool, ◌&&◌, List, length}
+use Rattle.laws.specs.Names.{ℤ, pos, negsuc, neg_ℤ, number_of, Duration, N}
 use Rattle.text.specs.declared.{Count.Count, Options.Options, TextAnswer.TextAnswer}
 use Rattle.text.specs.Answer.{limit, accepts, text, answer_of, left_in}
 

@@ -1,5 +1,6 @@
 -- A float of seconds as a duration. Assumes nothing.
-use Rattle.laws.specs.Names.{ℕ, ◌*◌, ◌^◌, false, cond, leb, pos, Float, nan, inf, fin, binary64, up, down, lt, mul, div, closest, Negative, OverflowOrNan, BadDuration, Duration, Answer, Refused, valid, exact}
+use Rattle.std.specs.Prelude.{ℕ, ◌*◌, ◌^◌, false, cond, leb}
+use Rattle.laws.specs.Names.{pos, Float, nan, inf, fin, binary64, up, down, lt, mul, div, closest, Negative, OverflowOrNan, BadDuration, Duration, Answer, Refused, valid, exact}
 pub use Rattle.seconds.specs.Out.{seconds_as}
 
 -- a / b seconds: OverflowOrNan from 2 ^ 64 on, and otherwise the nearest whole nanosecond, a tie to the even one

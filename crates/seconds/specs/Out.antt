@@ -1,5 +1,6 @@
 -- A duration as a float of either format f, each operation rounded once, in the Rust's order. Assumes nothing.
-use Rattle.laws.specs.Names.{ℕ, ◌^◌, Bool, cond, pos, Float, Format, of_int, add, mul, div, BadDuration, Duration}
+use Rattle.std.specs.Prelude.{ℕ, ◌^◌, Bool, cond}
+use Rattle.laws.specs.Names.{pos, Float, Format, of_int, add, mul, div, BadDuration, Duration}
 use Rattle.seconds.specs.declared.{F64Answer.F64Answer, F32Answer.F32Answer}
 
 -- a whole number, rounded where it is too wide

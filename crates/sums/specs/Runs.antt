@@ -1,5 +1,6 @@
 -- What a sum that is not carried yet stands for: what the contracts of the private functions of `sum` cite. Assumes nothing.
-use Rattle.laws.specs.Names.{ℕ, ◌+◌, ◌*◌, ◌^◌, ◌≤◌, ◌<◌, min, ◌≡◌, cond, List, length, ltb, BadRow, Duration, exact}
+use Rattle.std.specs.Prelude.{ℕ, ◌+◌, ◌*◌, ◌^◌, ◌≤◌, ◌<◌, min, ◌≡◌, cond, List, length, ltb}
+use Rattle.laws.specs.Names.{BadRow, Duration, exact}
 use Rattle.std.specs.Int.Bits.{bit_or}
 use Rattle.sums.specs.declared.run.Run.{Run}
 use Rattle.sums.specs.Sum.{SumAnswer, summed, total, each_valid}

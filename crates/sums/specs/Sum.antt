@@ -1,5 +1,6 @@
 -- The sum of rows that are lent as two lists, seconds and nanoseconds, over whole nanoseconds. Assumes nothing.
-use Rattle.laws.specs.Names.{ℕ, ◌+◌, ◌-◌, ◌%◌, Bool, true, cond, ◌&&◌, List, [], ◌∷◌, length, take, drop, leb, eqb, BadRow, BadRange, Duration, Answer, N, valid, exact, decoded}
+use Rattle.std.specs.Prelude.{ℕ, ◌+◌, ◌-◌, ◌%◌, Bool, true, cond, ◌&&◌, List, [], ◌∷◌, length, take, drop, leb, eqb}
+use Rattle.laws.specs.Names.{BadRow, BadRange, Duration, Answer, N, valid, exact, decoded}
 pub use Rattle.sums.specs.declared.SumAnswer.{SumAnswer}
 
 -- an answer as a sum's

@@ -1,6 +1,7 @@
 -- What is proved of the sum's definition, in proofs/SumTheorems.antt. Assumes nothing.
 use mathlib.Core.List.{Permᴰ}
-use Rattle.laws.specs.Names.{ℕ, ◌^◌, ◌≤◌, ◌<◌, ◌≡◌, List, length, get_or, Duration, of_nanos, encoded}
+use Rattle.std.specs.Prelude.{ℕ, ◌^◌, ◌≤◌, ◌<◌, ◌≡◌, List, length, get_or}
+use Rattle.laws.specs.Names.{Duration, of_nanos, encoded}
 use Rattle.sums.specs.Sum.{SumAnswer, sum_answer, sum_of, bytes_sum}
 
 -- any order of the rows gives the same answer

@@ -1,5 +1,6 @@
 -- What printing answers, and what it leaves in the lent buffer. Assumes nothing.
-use Rattle.laws.specs.Names.{ℕ, ◌≡◌, cond, List, ◌++◌, length, drop, leb, BadOptions, NoRoom, BadDuration, Duration, N, valid}
+use Rattle.std.specs.Prelude.{ℕ, ◌≡◌, cond, List, ◌++◌, length, drop, leb}
+use Rattle.laws.specs.Names.{BadOptions, NoRoom, BadDuration, Duration, N, valid}
 use Rattle.text.specs.declared.TextAnswer.{TextAnswer}
 pub use Rattle.text.specs.Text.{Options, limit, accepts, text}
 

@@ -1,5 +1,5 @@
 -- Decimal digits, as bytes, and the fewest that do. Assumes nothing.
-use Rattle.laws.specs.Names.{ℕ, zero, suc, ◌+◌, ◌/◌, ◌%◌, ◌^◌, Bool, cond, List, [], ◌∷◌, ◌++◌, ltb}
+use Rattle.std.specs.Prelude.{ℕ, zero, suc, ◌+◌, ◌/◌, ◌%◌, ◌^◌, Bool, cond, List, [], ◌∷◌, ◌++◌, ltb}
 
 -- the least of 0 .. f that has the property, or f where none below it has
 unfoldable pub least : (ℕ → Bool) → ℕ → ℕ

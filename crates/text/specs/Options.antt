@@ -1,5 +1,5 @@
 -- Which options are accepted. Every limit stands here and nowhere else. Assumes nothing.
-use Rattle.laws.specs.Names.{ℕ, Bool, true, ◌&&◌, leb}
+use Rattle.std.specs.Prelude.{ℕ, Bool, true, ◌&&◌, leb}
 pub use Rattle.text.specs.declared.{Count.Count, Options.Options}
 
 -- the most fraction digits, and the most characters, that can be asked for

@@ -1,5 +1,6 @@
 -- What passes between the steps of printing: a duration in its unit, the digits of a fraction, a number laid out. Assumes nothing.
-use Rattle.laws.specs.Names.{ℕ, ◌+◌, ◌-◌, ◌*◌, ◌/◌, ◌^◌, ◌≤◌, ◌<◌, ◌≡◌, List, ◌++◌, length, take, closest, times}
+use Rattle.std.specs.Prelude.{ℕ, ◌+◌, ◌-◌, ◌*◌, ◌/◌, ◌^◌, ◌≤◌, ◌<◌, ◌≡◌, List, ◌++◌, length, take}
+use Rattle.laws.specs.Names.{closest, times}
 use Rattle.text.specs.declared.{unit.Scaled.Scaled, fraction.Fraction.Fraction, round.Rounded.Rounded, number.Number.Number, plain.Plain.Plain, plain.Size.Size}
 use Rattle.text.specs.Digits.{ending_digits, width, decimal, pointed}
 use Rattle.text.specs.Text.{limit, measure, suffix_of, unit_of, exact_places, characters}

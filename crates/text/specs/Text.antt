@@ -1,5 +1,6 @@
 -- The text of n nanoseconds. It is said over n and the options alone: a text does not know its buffer. Assumes nothing.
-use Rattle.laws.specs.Names.{ℕ, suc, ◌-◌, ◌*◌, ◌/◌, ◌%◌, ◌^◌, cond, ◌&&◌, List, [], ◌∷◌, ◌++◌, leb, ltb, eqb, closest, times}
+use Rattle.std.specs.Prelude.{ℕ, suc, ◌-◌, ◌*◌, ◌/◌, ◌%◌, ◌^◌, cond, ◌&&◌, List, [], ◌∷◌, ◌++◌, leb, ltb, eqb}
+use Rattle.laws.specs.Names.{closest, times}
 use Rattle.text.specs.declared.unit.Unit.{Unit}
 use Rattle.text.specs.Digits.{least, numeral}
 pub use Rattle.text.specs.Options.{Count, Options, limit, accepts}

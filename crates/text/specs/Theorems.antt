@@ -1,5 +1,6 @@
 -- What is true of every text. Each statement is a type; its proof stands in proofs/Theorems.antt. Assumes nothing.
-use Rattle.laws.specs.Names.{ℕ, ◌+◌, ◌-◌, ◌*◌, ◌^◌, ◌≤◌, ◌<◌, ◌≡◌, true, List, [], ◌∷◌, length, most}
+use Rattle.std.specs.Prelude.{ℕ, ◌+◌, ◌-◌, ◌*◌, ◌^◌, ◌≤◌, ◌<◌, ◌≡◌, true, List, [], ◌∷◌, length}
+use Rattle.laws.specs.Names.{most}
 use Rattle.text.specs.Digits.{width, decimal}
 use Rattle.text.specs.Text.{Count, Options, accepts, characters, text}
 

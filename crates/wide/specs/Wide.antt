@@ -1,5 +1,5 @@
 -- Two words as one natural number, and each operation's exact answer over natural numbers. Assumes nothing.
-use Rattle.refusal.specs.Library.{ℕ, ◌+◌, ◌*◌, ◌-◌, ◌/◌, ◌%◌, ◌^◌, cond, ltb, eqb}
+use Rattle.std.specs.Prelude.{ℕ, ◌+◌, ◌*◌, ◌-◌, ◌/◌, ◌%◌, ◌^◌, cond, ltb, eqb}
 use Rattle.refusal.specs.declared.Refusal.TheVariants.{Overflow, Underflow, ZeroDivisor}
 use Rattle.wide.specs.declared.{Wide.Wide, Order.Order, WideAnswer.WideAnswer, DivAnswer.DivAnswer}
 

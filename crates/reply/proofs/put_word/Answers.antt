@@ -9,7 +9,7 @@ use Rattle.reply.proofs.put_word.Goals as goal
 
 pub loop-i-preserved : goal.loop-i-preserved
 loop-i-preserved c = let l = c.loop-i in (
-      omega arith,
-      ap (λ (z : List ℕ). set z l.i (l.v % 256)) l.invariant.1 ∙ stored c.args.w l.v l.i c.args.out.now (omega arith) l.invariant.2,
-      rest_more c.args.w l.v l.i l.invariant.2,
-    )
+  omega arith,
+  ap (λ (z : List ℕ). set z l.i (l.v % 256)) l.invariant.1 ∙ stored c.args.w l.v l.i c.args.out.now (omega arith) l.invariant.2,
+  rest_more c.args.w l.v l.i l.invariant.2,
+)

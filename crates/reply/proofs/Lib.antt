@@ -1,2 +1,0 @@
--- Laws of the replies.
-pub mod Replies
