@@ -15,13 +15,13 @@ unfolding shared
 returns-then-k-eq0 c = of_one _ _ (omega arith) (rw (eq-eqb _ 0 c.if-k-eq0.true))
 
 pub overflow_mul-left : goal.overflow_mul-left
-overflow_mul-left c = let s = c in omega (arith, left_over s.args.d.secs 0 s.args.k c.if-k-eq0.false)
+overflow_mul-left c = omega (arith, left_over c.args.d.secs 0 c.args.k c.if-k-eq0.false)
 
 pub overflow_add-left : goal.overflow_add-left
-overflow_add-left c = let s = c in omega (arith, left_over s.args.d.secs 0 s.args.k c.if-k-eq0.false)
+overflow_add-left c = omega (arith, left_over c.args.d.secs 0 c.args.k c.if-k-eq0.false)
 
 pub overflow_cast-result : goal.overflow_cast-result
-overflow_cast-result c = let s = c in omega (arith, share_below s.args.d.secs s.args.d.nanos s.args.k c.if-k-eq0.false (omega arith))
+overflow_cast-result c = omega (arith, share_below c.args.d.secs c.args.d.nanos c.args.k c.if-k-eq0.false (omega arith))
 
 pub returns : goal.returns
 unfolding shared

@@ -15,7 +15,7 @@ unfolding times
 returns-then-secs-gt0 c = of_one _ _ (omega arith) (exact_over (product_over _ _ _ c.widening_mul-secs.ensures (omega arith)))
 
 pub overflow_mul-nanos : goal.overflow_mul-nanos
-overflow_mul-nanos c = let s = c in omega (arith, product_below {n = s.args.d.nanos} {k = s.args.k} (omega arith) (omega arith))
+overflow_mul-nanos c = omega (arith, product_below {n = c.args.d.nanos} {k = c.args.k} (omega arith) (omega arith))
 
 pub returns-then-secs-carry : goal.returns-then-secs-carry
 unfolding times

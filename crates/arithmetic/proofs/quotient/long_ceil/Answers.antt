@@ -10,5 +10,4 @@ overflow_add-result c = omega (arith, c.by_long-x.ensures.0, c.one_more-one.ensu
 
 pub returns : goal.returns
 returns c =
-    let l = c in
-    ceil_long _ _ l.requires.2 l.by_long-x.ensures.1 l.by_long-x.ensures.0 c.one_more-one.ensures l.by_long-x.ensures.2
+    ceil_long _ _ c.requires.2 c.by_long-x.ensures.1 c.by_long-x.ensures.0 c.one_more-one.ensures c.by_long-x.ensures.2

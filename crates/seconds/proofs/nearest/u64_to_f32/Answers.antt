@@ -21,11 +21,10 @@ float_from_bits-result c =
 
 pub returns : goal.returns
 returns c =
-    let d = c in
-    let n = d.args.n in
+    let n = c.args.n in
     (λ i. mul binary32 (c.halves_f32.ensures i) (of_bits binary32 (c.power.ensures i)))
-    ∙ times_power binary32 (place n) (127 + place n) refl (omega (arith, place-le n)) d.digits.result 46 d.digits.ensures.0 (omega (arith, place-le n))
-    ∙ d.digits.ensures.1
+    ∙ times_power binary32 (place n) (127 + place n) refl (omega (arith, place-le n)) c.digits.result 46 c.digits.ensures.0 (omega (arith, place-le n))
+    ∙ c.digits.ensures.1
 
 pub halves_f32-requires : goal.halves_f32-requires
 halves_f32-requires c = c.digits.ensures.0

@@ -10,12 +10,8 @@ put_digits-middle-requires c = omega (arith, c.requires)
 
 pub put_digits-requires-2 : goal.put_digits-requires-2
 put_digits-requires-2 c =
-    let p = c in
-    let s = p in
-    omega (arith, s.requires, p.put_digits-middle.ensures.next, length_digits (s.args.k - 10) (s.args.n / 10 ^ 10), p.put_digits-middle.auto)
+    omega (arith, c.requires, c.put_digits-middle.ensures.next, length_digits (c.args.k - 10) (c.args.n / 10 ^ 10), c.put_digits-middle.auto)
 
 pub returns : goal.returns
 returns c =
-    let p = c in
-    let s = p in
-    as_bytes (two_parts s.args.n s.args.k _ (omega arith) (omega arith)) (then p.put_digits-middle.ensures c.put_digits-2.ensures)
+    as_bytes (two_parts c.args.n c.args.k _ (omega arith) (omega arith)) (then c.put_digits-middle.ensures c.put_digits-2.ensures)

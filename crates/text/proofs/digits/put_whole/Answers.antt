@@ -8,21 +8,16 @@ use Rattle.text.proofs.digits.put_whole.Goals as goal
 
 pub put_long-requires : goal.put_long-requires
 put_long-requires c =
-    let s = c in
-    omega (arith, s.requires.0, s.requires.2, no_more s.args.n c.if-past-eq0.true)
+    omega (arith, c.requires.0, c.requires.2, no_more c.args.n c.if-past-eq0.true)
 
 pub returns-then-past-eq0 : goal.returns-then-past-eq0
 returns-then-past-eq0 c =
-    let i = c in
-    let s = i in
-    as_bytes (word-decimal s.args.n i.if-past-eq0.true s.requires.2) c.put_long.ensures
+    as_bytes (word-decimal c.args.n c.if-past-eq0.true c.requires.2) c.put_long.ensures
 
 pub copy-requires : goal.copy-requires
 copy-requires c =
-    let s = c in
-    omega (arith, s.requires.0, ap length (past-decimal c.if-past-eq0.false s.requires.1))
+    omega (arith, c.requires.0, ap length (past-decimal c.if-past-eq0.false c.requires.1))
 
 pub returns : goal.returns
 returns c =
-    let s = c in
-    as_bytes (past-decimal c.if-past-eq0.false s.requires.1) c.copy.ensures
+    as_bytes (past-decimal c.if-past-eq0.false c.requires.1) c.copy.ensures

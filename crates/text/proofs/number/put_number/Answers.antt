@@ -5,13 +5,11 @@ use Rattle.text.proofs.Lengths.{pieces, sizes}
 use Rattle.text.proofs.number.put_number.Goals as goal
 
 pub put_whole-a-requires : goal.put_whole-a-requires
-put_whole-a-requires c = let s = c in (omega (arith, s.requires.0, sizes s.args.n), s.requires.1.past, s.requires.1.wide)
+put_whole-a-requires c = (omega (arith, c.requires.0, sizes c.args.n), c.requires.1.past, c.requires.1.wide)
 
 pub put_places-requires : goal.put_places-requires
 put_places-requires c =
-    let w = c in
-    let s = w in
-    (omega (arith, s.requires.0, sizes s.args.n, w.put_whole-a.ensures.next, w.put_whole-a.auto), s.requires.1.used, s.requires.1.zeros)
+    (omega (arith, c.requires.0, sizes c.args.n, c.put_whole-a.ensures.next, c.put_whole-a.auto), c.requires.1.used, c.requires.1.zeros)
 
 pub returns : goal.returns
 returns c = as_bytes (pieces _) (then c.put_whole-a.ensures c.put_places.ensures)

@@ -5,23 +5,16 @@ use Rattle.text.proofs.Plains.{emits, length-emitted}
 use Rattle.text.proofs.plain.emit.Goals as goal
 
 pub fill-a-requires : goal.fill-a-requires
-fill-a-requires c = let s = c in omega (arith, s.requires.0, length-emitted s.args.p)
+fill-a-requires c = omega (arith, c.requires.0, length-emitted c.args.p)
 
 pub put_number-b-requires : goal.put_number-b-requires
 put_number-b-requires c =
-    let f = c in
-    let s = f in
-    (omega (arith, s.requires.0, length-emitted s.args.p, f.fill-a.ensures.next, length-times s.args.p.plus 43, f.fill-a.auto), s.requires.1.sound)
+    (omega (arith, c.requires.0, length-emitted c.args.p, c.fill-a.ensures.next, length-times c.args.p.plus 43, c.fill-a.auto), c.requires.1.sound)
 
 pub put_suffix-requires : goal.put_suffix-requires
 put_suffix-requires c =
-    let n = c in
-    let f = n in
-    let s = f in
-    omega (arith, s.requires.0, length-emitted s.args.p, f.fill-a.ensures.next, length-times s.args.p.plus 43, n.put_number-b.ensures.next, f.fill-a.auto, n.put_number-b.auto)
+    omega (arith, c.requires.0, length-emitted c.args.p, c.fill-a.ensures.next, length-times c.args.p.plus 43, c.put_number-b.ensures.next, c.fill-a.auto, c.put_number-b.auto)
 
 pub returns : goal.returns
 returns c =
-    let n = c in
-    let f = n in
-    as_bytes (emits _) (then (then f.fill-a.ensures n.put_number-b.ensures) c.put_suffix.ensures)
+    as_bytes (emits _) (then (then c.fill-a.ensures c.put_number-b.ensures) c.put_suffix.ensures)

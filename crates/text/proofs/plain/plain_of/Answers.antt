@@ -7,4 +7,4 @@ pub number_of-number-requires : goal.number_of-number-requires
 number_of-number-requires c = (c.scale-s.ensures.part, (accepted _ c.requires.1).precision)
 
 pub returns : goal.returns
-returns c = let s = c in plain_is _ s.args.o c.scale-s.ensures c.number_of-number.ensures (accepted _ s.requires.1).plus
+returns c = plain_is _ c.args.o c.scale-s.ensures c.number_of-number.ensures (accepted _ c.requires.1).plus

@@ -5,29 +5,19 @@ use Rattle.text.proofs.Printing.{front_le, pads}
 use Rattle.text.proofs.print.place.Goals as goal
 
 pub fill-i-requires : goal.fill-i-requires
-fill-i-requires c = let s = c in omega (arith, s.requires.0, c.front_of-front.ensures, front_le s.args.alignment s.args.pad)
+fill-i-requires c = omega (arith, c.requires.0, c.front_of-front.ensures, front_le c.args.alignment c.args.pad)
 
 pub emit-j-requires : goal.emit-j-requires
 emit-j-requires c =
-    let f = c in
-    let k = f in
-    let s = k in
-    (omega (arith, s.requires.0, k.front_of-front.ensures, front_le s.args.alignment s.args.pad, f.fill-i.ensures.next, length-times k.front_of-front.result s.args.b, f.fill-i.auto), s.requires.1)
+    (omega (arith, c.requires.0, c.front_of-front.ensures, front_le c.args.alignment c.args.pad, c.fill-i.ensures.next, length-times c.front_of-front.result c.args.b, c.fill-i.auto), c.requires.1)
 
 pub overflow_sub-pad : goal.overflow_sub-pad
-overflow_sub-pad c = let k = c in let s = k in omega (arith, k.front_of-front.ensures, front_le s.args.alignment s.args.pad)
+overflow_sub-pad c = omega (arith, c.front_of-front.ensures, front_le c.args.alignment c.args.pad)
 
 pub fill-requires : goal.fill-requires
 fill-requires c =
-    let e = c in
-    let f = e in
-    let k = f in
-    let s = k in
-    omega (arith, s.requires.0, k.front_of-front.ensures, front_le s.args.alignment s.args.pad, f.fill-i.ensures.next, length-times k.front_of-front.result s.args.b, e.emit-j.ensures.next, f.fill-i.auto, e.emit-j.auto)
+    omega (arith, c.requires.0, c.front_of-front.ensures, front_le c.args.alignment c.args.pad, c.fill-i.ensures.next, length-times c.front_of-front.result c.args.b, c.emit-j.ensures.next, c.fill-i.auto, c.emit-j.auto)
 
 pub returns : goal.returns
 returns c =
-    let e = c in
-    let f = e in
-    let k = f in
-    as_bytes (pads _ _ _ _ k.front_of-front.ensures) (then (then f.fill-i.ensures e.emit-j.ensures) c.fill.ensures)
+    as_bytes (pads _ _ _ _ c.front_of-front.ensures) (then (then c.fill-i.ensures c.emit-j.ensures) c.fill.ensures)

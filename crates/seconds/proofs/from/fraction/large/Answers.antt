@@ -3,7 +3,7 @@ use Rattle.seconds.proofs.Fraction.{too_far, shifted}
 use Rattle.seconds.proofs.from.fraction.large.Goals as goal
 
 pub returns-then-up-most : goal.returns-then-up-most
-returns-then-up-most c = let s = c in too_far s.args.m s.args.up s.args.most s.requires.1 c.if-up-most.true
+returns-then-up-most c = too_far c.args.m c.args.up c.args.most c.requires.1 c.if-up-most.true
 
 pub returns : goal.returns
-returns c = let s = c in shifted s.args.m s.args.up s.args.most s.requires.0 c.if-up-most.false
+returns c = shifted c.args.m c.args.up c.args.most c.requires.0 c.if-up-most.false

@@ -5,4 +5,4 @@ use Rattle.seconds.proofs.Rounding.{words}
 use Rattle.seconds.proofs.from.fraction.nanos.Goals as goal
 
 pub returns : goal.returns
-returns c = let s = c in c.rounded.ensures ∙ ap (λ (z : ℕ). closest z (2 ^ (32 + s.args.j))) (words s.args.f)
+returns c = c.rounded.ensures ∙ ap (λ (z : ℕ). closest z (2 ^ (32 + c.args.j))) (words c.args.f)

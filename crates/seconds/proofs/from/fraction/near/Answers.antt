@@ -7,15 +7,13 @@ use Rattle.seconds.proofs.Fraction.{split_at, below_second}
 use Rattle.seconds.proofs.from.fraction.near.Goals as goal
 
 pub carried-requires : goal.carried-requires
-carried-requires c =
-    let s = c in (
-      omega (arith, shr_le s.args.m s.args.k, s.requires),
-      omega (arith, c.nanos.ensures ∙ over_64 s.args.m s.args.k s.requires.2, below_second s.args.k (s.args.m % 2 ^ s.args.k) (mod-lt s.args.m (pow_pos s.args.k))),
-    )
+carried-requires c = (
+  omega (arith, shr_le c.args.m c.args.k, c.requires),
+  omega (arith, c.nanos.ensures ∙ over_64 c.args.m c.args.k c.requires.2, below_second c.args.k (c.args.m % 2 ^ c.args.k) (mod-lt c.args.m (pow_pos c.args.k))),
+)
 
 pub returns : goal.returns
 returns c =
-    let s = c in
     c.carried.ensures
-    ∙ ap (λ (z : ℕ). exact (s.args.m / 2 ^ s.args.k * 10 ^ 9 + z)) (c.nanos.ensures ∙ over_64 s.args.m s.args.k s.requires.2)
-    ∙ sym (split_at s.args.m s.args.k s.requires.0)
+    ∙ ap (λ (z : ℕ). exact (c.args.m / 2 ^ c.args.k * 10 ^ 9 + z)) (c.nanos.ensures ∙ over_64 c.args.m c.args.k c.requires.2)
+    ∙ sym (split_at c.args.m c.args.k c.requires.0)
