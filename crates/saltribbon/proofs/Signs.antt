@@ -1,23 +1,43 @@
--- Signed numbers at the text's C function: every answer's length is one, and the numbers that are accepted. Assumes nothing.
-use mathlib.Core.Path.{◌≡◌, refl, ap, ◌∙◌}
+-- Signed numbers at the text's C function: a refusal that goes out, every answer's length, and the numbers that are accepted. Assumes nothing.
+use mathlib.Core.Path.{◌≡◌, refl, sym, ap, ◌∙◌}
 use mathlib.Core.Bool.{Bool, true, false, cond, ◌&&◌}
 use Prim.Native.Nat.{ℕ, zero, suc, ◌-◌, ◌^◌, ◌≤◌, ◌<◌}
 use native.Mathlib.Nat.{lt_of_le_of_lt}
 use native.Mathlib.Omega.{arith}
 use borrow.Author.Tests.{ltb-true, lt-leb}
 use lib.Dec.{leb, lit<, leb-zero, leb-suc-zero}
-use lib.IntN.{ℤ, pos, negsuc}
+use lib.IntN.{ℤ, pos, negsuc, neg_ℤ, ◌-ℤ◌, +ℤ_idl}
 use lib.ListN.{length}
+use mir.Syntax.{w64}
+use mir.Val.{SFits, of_z, to_z}
+use mir.Facts.{to_z-of_z, to_z_pos}
+use Rattle.refusal.specs.Numbers.{number_of}
+use Rattle.refusal.specs.declared.Refusal.{Refusal}
 use Rattle.refusal.specs.declared.Refusal.TheVariants.{BadOptions, NoRoom, BadDuration}
 use Rattle.duration.specs.declared.Duration.{Duration}
 use Rattle.duration.specs.Meaning.{N, valid, most}
 use Rattle.text.specs.declared.Options.{Options}
+use Rattle.text.specs.declared.TextAnswer.{TextAnswer}
 use Rattle.text.specs.declared.TextAnswer.TheVariants.{Is, Refused}
 use Rattle.text.specs.Options.{limit, within, accepts}
 use Rattle.text.specs.Text.{text}
 use Rattle.text.specs.Answer.{fitted, answer_of}
 use Rattle.text.proofs.Theorems.{longest}
-use Rattle.saltribbon.specs.Said.{option_of, count_of, Short, between, AcceptedNumbers}
+use Rattle.saltribbon.specs.Said.{option_of, count_of, signed_of, Short, between, AcceptedNumbers}
+
+-- ---- the number that goes out
+negated_fits : (n : ℕ) → n < 2 ^ 63 → SFits w64 (neg_ℤ (pos n))
+negated_fits zero h = record { sfits = h }
+negated_fits (suc n) h = record { sfits = omega arith }
+
+negated : (n : ℕ) → n < 2 ^ 63 → pos 0 -ℤ to_z w64 n ≡ neg_ℤ (pos n)
+negated n h = ap (λ (z : ℤ). pos 0 -ℤ z) (to_z_pos w64 h) ∙ +ℤ_idl (neg_ℤ (pos n))
+
+refusal_fits : {n : ℕ} → n < 2 ^ 63 → SFits w64 (pos 0 -ℤ to_z w64 n)
+refusal_fits {n} h = rw (negated n h) (negated_fits n h)
+
+pub sent_refusal : {a : TextAnswer} {f : Refusal} {n : ℕ} → a ≡ Refused f → n ≡ number_of f → n < 2 ^ 63 → to_z w64 (of_z w64 (pos 0 -ℤ to_z w64 n)) ≡ signed_of a
+sent_refusal {a} {f} {n} e g h = to_z-of_z (refusal_fits h) ∙ negated n h ∙ ap (λ (k : ℕ). neg_ℤ (pos k)) g ∙ ap signed_of (sym e)
 
 -- ---- every answer's length is a signed word
 pub short : (d : Duration) (o : Options) (room : ℕ) → d.secs < 2 ^ 64 → Short (answer_of d o room)

@@ -1,0 +1,7 @@
+-- `saltribbon::printed::signed` meets its contract: a refusal goes out as its number negated. Assumes nothing.
+use Rattle.std.proofs.Common.{arith}
+use Rattle.saltribbon.proofs.Signs.{sent_refusal}
+use Rattle.saltribbon.proofs.printed.signed.Goals as goal
+
+pub returns-in-Refused : goal.returns-in-Refused
+returns-in-Refused c = sent_refusal c.in-Refused.is c.number.ensures (omega arith)
