@@ -1,197 +1,163 @@
 // Integer arithmetic: sums, differences, and products and quotients by a whole number. Each is exact, or refused.
-#![tactic(auto)]
+#![tactic(auto, unfolding(duration::specs::Meaning::valid, duration::specs::Meaning::exact, duration::specs::Meaning::checked, duration::specs::Parts::count, wide::specs::Wide::wide, wide::specs::Wide::words, crate::specs::Arithmetic::added, crate::specs::Arithmetic::subtracted, crate::specs::Arithmetic::apart, crate::specs::Arithmetic::times, crate::specs::Arithmetic::shared, crate::specs::Arithmetic::floor_of, crate::specs::Arithmetic::ceil_of, crate::specs::Arithmetic::saturated))]
 
-ghost use Rattle.std.specs.Prelude.{◌≡◌};
+ghost use Rattle.std.specs.Prelude.{◌≡◌, ◌+◌, ◌-◌, ◌*◌, ◌/◌, ◌^◌, ◌<◌, ◌≤◌};
+ghost use Rattle.duration.specs.Meaning.{N, of_nanos};
 ghost use Rattle.arithmetic.specs.Arithmetic.{added, subtracted, apart, times, shared, floor_of, ceil_of, saturated};
 
-use duration::{Answer, Duration};
+use duration::{Duration, constructors, parts};
 use refusal::Refusal;
-use wide::{DivAnswer, Wide, WideAnswer};
+use wide::Wide;
 
-mod difference;
-mod quotient;
-
-pub fn checked_add(a: Duration, b: Duration) -> Answer
+pub fn checked_add(a: Duration, b: Duration) -> Result<Duration, Refusal>
     ensures { result ≡ added a b }
 {
-    if 1_000_000_000 <= a.nanos {
-        return Answer::Refused(Refusal::BadDuration);
-    }
-    if 1_000_000_000 <= b.nanos {
-        return Answer::Refused(Refusal::BadDuration);
-    }
-    if u64::MAX - a.secs < b.secs {
-        return Answer::Refused(Refusal::Overflow);
-    }
-    let secs = a.secs + b.secs;
-    let nanos = a.nanos + b.nanos;
-    let carry = (nanos / 1_000_000_000) as u64;
-    if u64::MAX - secs < carry {
-        return Answer::Refused(Refusal::Overflow);
-    }
-    Answer::Is(Duration {
-        secs: secs + carry,
-        nanos: nanos % 1_000_000_000,
-    })
+    let a = a.checked()?;
+    let b = b.checked()?;
+    let secs = a.secs.checked_add(b.secs).ok_or(Refusal::Overflow)?;
+    constructors::new(secs, a.nanos + b.nanos)
 }
 
-pub fn checked_sub(a: Duration, b: Duration) -> Answer
+// a - b. A second is lent to the nanoseconds, and given back where there was no need of it: no branch on numbers.
+fn minus(a: Duration, b: Duration) -> Duration
+    requires { (a.nanos < 10 ^ 9) × (b.nanos < 10 ^ 9) × (N b ≤ N a) }
+    ensures { result ≡ of_nanos (N a - N b) }
+{
+    let nanos = 1_000_000_000 + a.nanos - b.nanos;
+    let borrow = (1 - nanos / 1_000_000_000) as u64;
+    Duration {
+        secs: a.secs - b.secs - borrow,
+        nanos: nanos % 1_000_000_000,
+    }
+}
+
+pub fn checked_sub(a: Duration, b: Duration) -> Result<Duration, Refusal>
     ensures { result ≡ subtracted a b }
 {
-    if 1_000_000_000 <= a.nanos {
-        return Answer::Refused(Refusal::BadDuration);
+    let a = a.checked()?;
+    let b = b.checked()?;
+    if a < b {
+        return Err(Refusal::Underflow);
     }
-    if 1_000_000_000 <= b.nanos {
-        return Answer::Refused(Refusal::BadDuration);
-    }
-    if difference::less(a, b) {
-        return Answer::Refused(Refusal::Underflow);
-    }
-    Answer::Is(difference::minus(a, b))
+    Ok(minus(a, b))
 }
 
-pub fn abs_diff(a: Duration, b: Duration) -> Answer
+// The longer less the shorter.
+pub fn abs_diff(a: Duration, b: Duration) -> Result<Duration, Refusal>
     ensures { result ≡ apart a b }
 {
-    if 1_000_000_000 <= a.nanos {
-        return Answer::Refused(Refusal::BadDuration);
-    }
-    if 1_000_000_000 <= b.nanos {
-        return Answer::Refused(Refusal::BadDuration);
-    }
-    let long = difference::longer(a, b);
-    let short = difference::shorter(a, b);
-    Answer::Is(difference::minus(long, short))
+    let a = a.checked()?;
+    let b = b.checked()?;
+    Ok(minus(a.max(b), a.min(b)))
 }
 
 // The seconds pass a word by the product, or by what the nanoseconds carry.
-pub fn checked_mul(d: Duration, k: u32) -> Answer
+pub fn checked_mul(d: Duration, k: u32) -> Result<Duration, Refusal>
     ensures { result ≡ times d k }
 {
-    if 1_000_000_000 <= d.nanos {
-        return Answer::Refused(Refusal::BadDuration);
-    }
-    let secs = wide::widening_mul(d.secs, k as u64);
-    if 0 < secs.hi {
-        return Answer::Refused(Refusal::Overflow);
-    }
-    let nanos = d.nanos as u64 * k as u64;
+    let d = d.checked()?;
+    let by = k as u64;
+    let secs = d.secs.checked_mul(by).ok_or(Refusal::Overflow)?;
+    let nanos = d.nanos as u64 * by;
     let carry = nanos / 1_000_000_000;
-    if u64::MAX - secs.lo < carry {
-        return Answer::Refused(Refusal::Overflow);
-    }
-    Answer::Is(Duration {
-        secs: secs.lo + carry,
+    Ok(Duration {
+        secs: secs.checked_add(carry).ok_or(Refusal::Overflow)?,
         nanos: (nanos % 1_000_000_000) as u32,
     })
 }
 
 // The seconds that are left over, less than 2^32, are divided as nanoseconds.
-pub fn checked_div(d: Duration, k: u32) -> Answer
+#[tactic(auto, using(crate::proofs::Quotients::share_is), unfolding(duration::specs::Meaning::valid, duration::specs::Meaning::checked, crate::specs::Arithmetic::shared))]
+pub fn checked_div(d: Duration, k: u32) -> Result<Duration, Refusal>
     ensures { result ≡ shared d k }
 {
-    if 1_000_000_000 <= d.nanos {
-        return Answer::Refused(Refusal::BadDuration);
-    }
+    let d = d.checked()?;
     if k == 0 {
-        return Answer::Refused(Refusal::ZeroDivisor);
+        return Err(Refusal::ZeroDivisor);
     }
     let by = k as u64;
     let left = d.secs % by * 1_000_000_000 + d.nanos as u64;
-    Answer::Is(Duration {
+    Ok(Duration {
         secs: d.secs / by,
         nanos: (left / by) as u32,
     })
 }
 
+// n / d. Where d has two words, the machine divides what both have above their last 31 bits: that quotient is at most 1 too small.
+// Where n has one word, the machine divides.
+#[tactic(auto, using(crate::proofs::Quotients::not_above, crate::proofs::Quotients::as_it_is, crate::proofs::Quotients::one_more))]
+fn quotient(n: u128, d: u128) -> u128
+    requires { (n < 2 ^ 65 * 10 ^ 9) × (d < 2 ^ 65 * 10 ^ 9) × (0 < d) }
+    ensures { result ≡ n / d }
+{
+    if d > u64::MAX as u128 {
+        let near = ((n >> 31) as u64 / ((d >> 31) as u64 + 1)) as u128;
+        return if n - near * d < d { near } else { near + 1 };
+    }
+    match u64::try_from(n) {
+        Ok(short) => (short / d as u64) as u128,
+        Err(_) => n / d,
+    }
+}
+
+// The same, rounded up.
+#[tactic(auto, using(crate::proofs::Quotients::nothing_left, crate::proofs::Quotients::something_left))]
+fn ceiling(n: u128, d: u128) -> u128
+    requires { (n < 2 ^ 65 * 10 ^ 9) × (d < 2 ^ 65 * 10 ^ 9) × (0 < d) }
+    ensures { result ≡ (n + (d - 1)) / d }
+{
+    let whole = quotient(n, d);
+    if whole * d < n { whole + 1 } else { whole }
+}
+
 // How many times a holds b, rounded down.
-pub fn div_duration_floor(a: Duration, b: Duration) -> WideAnswer
+pub fn div_duration_floor(a: Duration, b: Duration) -> Result<Wide, Refusal>
     ensures { result ≡ floor_of a b }
 {
-    if 1_000_000_000 <= a.nanos {
-        return WideAnswer::Refused(Refusal::BadDuration);
+    let over = u128::from(parts::as_nanos(a)?);
+    let by = u128::from(parts::as_nanos(b)?);
+    if by == 0 {
+        return Err(Refusal::ZeroDivisor);
     }
-    if 1_000_000_000 <= b.nanos {
-        return WideAnswer::Refused(Refusal::BadDuration);
-    }
-    let n = wide::scaled(a.secs, 1_000_000_000, a.nanos);
-    let d = wide::scaled(b.secs, 1_000_000_000, b.nanos);
-    if n.hi == 0 {
-        return quotient::short_floor(n.lo, d);
-    }
-    if 0 < d.hi {
-        return quotient::long_floor(n, d);
-    }
-    match wide::div(n, d) {
-        DivAnswer::Divided(x) => {
-            let whole = x.quotient;
-            quotient::given(whole)
-        }
-        DivAnswer::Refused(r) => WideAnswer::Refused(r),
-    }
+    Ok(Wide::from(quotient(over, by)))
 }
 
-// How many times a holds b, rounded up: one more where something is left over.
-pub fn div_duration_ceil(a: Duration, b: Duration) -> WideAnswer
+// How many times a holds b, rounded up.
+pub fn div_duration_ceil(a: Duration, b: Duration) -> Result<Wide, Refusal>
     ensures { result ≡ ceil_of a b }
 {
-    if 1_000_000_000 <= a.nanos {
-        return WideAnswer::Refused(Refusal::BadDuration);
+    let over = u128::from(parts::as_nanos(a)?);
+    let by = u128::from(parts::as_nanos(b)?);
+    if by == 0 {
+        return Err(Refusal::ZeroDivisor);
     }
-    if 1_000_000_000 <= b.nanos {
-        return WideAnswer::Refused(Refusal::BadDuration);
-    }
-    let n = wide::scaled(a.secs, 1_000_000_000, a.nanos);
-    let d = wide::scaled(b.secs, 1_000_000_000, b.nanos);
-    if n.hi == 0 {
-        return quotient::short_ceil(n.lo, d);
-    }
-    if 0 < d.hi {
-        return quotient::long_ceil(n, d);
-    }
-    match wide::div(n, d) {
-        DivAnswer::Divided(x) => {
-            let whole = x.quotient;
-            let left = x.remainder;
-            let one = quotient::one_more(left);
-            wide::add(whole, Wide { hi: 0, lo: one })
-        }
-        DivAnswer::Refused(r) => WideAnswer::Refused(r),
-    }
+    Ok(Wide::from(ceiling(over, by)))
 }
 
-// MAX in place of refusal 3, and ZERO in place of 4.
-fn saturate(a: Answer) -> Answer
+// MAX in place of an overflow, and ZERO in place of an underflow.
+fn saturate(a: Result<Duration, Refusal>) -> Result<Duration, Refusal>
     ensures { result ≡ saturated a }
 {
     match a {
-        Answer::Is(d) => Answer::Is(d),
-        Answer::Refused(r) => {
-            let n = refusal::number(r);
-            if n == 3 {
-                return Answer::Is(duration::MAX);
-            }
-            if n == 4 {
-                return Answer::Is(duration::ZERO);
-            }
-            Answer::Refused(r)
-        }
+        Err(Refusal::Overflow) => Ok(duration::MAX),
+        Err(Refusal::Underflow) => Ok(duration::ZERO),
+        other => other,
     }
 }
 
-pub fn saturating_add(a: Duration, b: Duration) -> Answer
+pub fn saturating_add(a: Duration, b: Duration) -> Result<Duration, Refusal>
     ensures { result ≡ saturated (added a b) }
 {
     saturate(checked_add(a, b))
 }
 
-pub fn saturating_sub(a: Duration, b: Duration) -> Answer
+pub fn saturating_sub(a: Duration, b: Duration) -> Result<Duration, Refusal>
     ensures { result ≡ saturated (subtracted a b) }
 {
     saturate(checked_sub(a, b))
 }
 
-pub fn saturating_mul(d: Duration, k: u32) -> Answer
+pub fn saturating_mul(d: Duration, k: u32) -> Result<Duration, Refusal>
     ensures { result ≡ saturated (times d k) }
 {
     saturate(checked_mul(d, k))

@@ -1,23 +1,13 @@
 -- An f32 never carries into the next second, and no float rounds up to 2 ^ 64 s. Assumes nothing.
-use mathlib.Core.Path.{◌≡◌, refl, sym, ap, ◌∙◌}
-use mathlib.Core.Bool.{Bool, true, false, cond, ◌&&◌}
-use mathlib.Core.Logic.{inl, inr}
-use Prim.Native.Nat.{ℕ, zero, suc, ◌+◌, ◌*◌, ◌/◌, ◌%◌, ◌^◌, ◌≤◌, ◌<◌}
-use native.Mathlib.Nat.{le_trans, le_of_eq, mul-div_cancel, lt_of_le_of_lt, mod-lt, mod-le, mul-one, div-one}
-use native.Mathlib.Omega.{arith}
-use lib.IntN.{ℤ, pos, negsuc}
-use lib.Dec.{T, leb, ltb, eqb, ltb→lt, lit<, lit≤}
-use lib.Pow.{pow_pos}
+use Rattle.std.proofs.Common.{◌≡◌, refl, sym, ap, ◌∙◌, Bool, true, false, cond, ◌&&◌, inl, inr, ℕ, zero, suc, ◌+◌, ◌*◌, ◌/◌, ◌%◌, ◌^◌, ◌≤◌, ◌<◌, le_trans, le_of_eq, mul-div_cancel, lt_of_le_of_lt, mod-lt, mul-one, div-one, arith, ℤ, pos, negsuc, T, leb, ltb, eqb, ltb→lt, lit<, lit≤, pow_pos, le-leb, Result, Ok, Err}
+use native.Mathlib.Nat.{mod-le}
 use lib.Ieee.{Float, nan, inf, fin, Format, binary32, binary64, prec, emax, low, up, down, lt, fits}
 use lib.Ieee.Fits.{and_l, and_r}
 use lib.Ieee.Nearest.{closest}
-use borrow.Author.Tests.{le-leb}
 use Rattle.laws.proofs.Closest.{le_or_lt, closest_le}
 use Rattle.refusal.specs.declared.Refusal.{Refusal}
 use Rattle.refusal.specs.declared.Refusal.TheVariants.{Negative, Overflow, OverflowOrNan}
 use Rattle.duration.specs.declared.Duration.{Duration}
-use Rattle.duration.specs.declared.Answer.{Answer}
-use Rattle.duration.specs.declared.Answer.TheVariants.{Is, Refused}
 use Rattle.duration.specs.Meaning.{most, of_nanos, exact}
 use Rattle.seconds.specs.From.{of_fraction, of_size, from_seconds}
 use Rattle.seconds.proofs.Fraction.{over, within, closest-whole, split_at}
@@ -36,39 +26,39 @@ few_digits f s (suc m) e t =
     ltb→lt (suc m) (2 ^ prec f) (and_r A B (and_l (A && B) C (and_l (A && B && C) D t)))
 
 -- ---- answers that differ
-is_not : {r : Refusal} {d : Duration} → Refused r ≡ Is d → ⊥
-is_not e = let z : ◌≡◌ {A = ℕ} 0 1 = cc in omega arith
+is_not : {r : Refusal} {d : Duration} → Err r ≡ Ok d → ⊥
+is_not e = cc
 
-negative_not : Refused Negative ≡ Refused Overflow → ⊥
-negative_not e = let z : ◌≡◌ {A = ℕ} 0 1 = cc in omega arith
+negative_not : ◌≡◌ {A = Result Duration Refusal} (Err Negative) (Err Overflow) → ⊥
+negative_not e = cc
 
-nan_not : Refused OverflowOrNan ≡ Refused Overflow → ⊥
-nan_not e = let z : ◌≡◌ {A = ℕ} 0 1 = cc in omega arith
+nan_not : ◌≡◌ {A = Result Duration Refusal} (Err OverflowOrNan) (Err Overflow) → ⊥
+nan_not e = cc
 
 -- ---- an answer that is not the refusal tested for comes from the other way
-passed : (b : Bool) (r : Refusal) (a c : Answer) → (Refused r ≡ c → ⊥) → cond b (Refused r) a ≡ c → a ≡ c
+passed : (b : Bool) (r : Refusal) (a c : Result Duration Refusal) → (Err r ≡ c → ⊥) → cond b (Err r) a ≡ c → a ≡ c
 passed true r a c n e = absurd (n e)
 passed false r a c n e = e
 
-from_size : (x : Float) (c : Answer) → (Refused Negative ≡ c → ⊥) → from_seconds x ≡ c → of_size x ≡ c
+from_size : (x : Float) (c : Result Duration Refusal) → (Err Negative ≡ c → ⊥) → from_seconds x ≡ c → of_size x ≡ c
 unfolding from_seconds
 from_size x c n e = passed (lt x (fin false 0 (pos 0))) Negative (of_size x) c n e
 
-from_fraction : (a b : ℕ) (c : Answer) → (Refused OverflowOrNan ≡ c → ⊥) → of_fraction a b ≡ c → (a < 2 ^ 64 * b) × (exact (closest (a * 10 ^ 9) b) ≡ c)
+from_fraction : (a b : ℕ) (c : Result Duration Refusal) → (Err OverflowOrNan ≡ c → ⊥) → of_fraction a b ≡ c → (a < 2 ^ 64 * b) × (exact (closest (a * 10 ^ 9) b) ≡ c)
 from_fraction a b c n e = elim (le_or_lt (2 ^ 64 * b) a) [
   | inl h ↦ absurd (n (sym (over a b h) ∙ e))
   | inr h ↦ (h, sym (within a b h) ∙ e)
 ]
 
-exact_secs : (n : ℕ) (d : Duration) → exact n ≡ Is d → d.secs ≡ n / 10 ^ 9
+exact_secs : (n : ℕ) (d : Duration) → exact n ≡ Ok d → d.secs ≡ n / 10 ^ 9
 unfolding exact
 exact_secs n d e = go (leb n most) e
   where
-    go : (b : Bool) → cond b (Is (of_nanos n)) (Refused Overflow) ≡ Is d → d.secs ≡ n / 10 ^ 9
+    go : (b : Bool) → cond b (Ok (of_nanos n)) (Err Overflow) ≡ Ok d → d.secs ≡ n / 10 ^ 9
     go true e = let p : of_nanos n ≡ d = cc in sym (ap (λ (z : Duration). z.secs) p)
     go false e = absurd (is_not e)
 
-exact_fits : (n : ℕ) → n ≤ most → exact n ≡ Refused Overflow → ⊥
+exact_fits : (n : ℕ) → n ≤ most → exact n ≡ Err Overflow → ⊥
 unfolding exact
 exact_fits n h e = is_not (sym (rw (le-leb n most h) at e))
 
@@ -76,9 +66,9 @@ exact_fits n h e = is_not (sym (rw (le-leb n most h) at e))
 whole_part : (n w r : ℕ) → n ≡ w * 10 ^ 9 + r → r ≤ 999999999 → n / 10 ^ 9 ≡ w
 whole_part n w r e h = omega arith
 
-no_carry_at : (m : ℕ) (e : ℤ) (d : Duration) → m < 2 ^ 24 → of_fraction (m * up e) (down e) ≡ Is d → d.secs ≡ m * up e / down e
+no_carry_at : (m : ℕ) (e : ℤ) (d : Duration) → m < 2 ^ 24 → of_fraction (m * up e) (down e) ≡ Ok d → d.secs ≡ m * up e / down e
 no_carry_at m (pos k) d M e =
-    let h = from_fraction (m * 2 ^ k) 1 (Is d) is_not e in
+    let h = from_fraction (m * 2 ^ k) 1 (Ok d) is_not e in
     exact_secs (closest (m * 2 ^ k * 10 ^ 9) 1) d h.1
     ∙ ap (λ (z : ℕ). z / 10 ^ 9) (closest-whole (m * 2 ^ k * 10 ^ 9))
     ∙ mul-div_cancel (m * 2 ^ k) (lit< tt)
@@ -91,9 +81,9 @@ no_carry_at m (negsuc k) d M e =
     ∙ ap (λ (z : ℕ). z / b) (sym (mul-one m))
 
 pub no_carry_ever : NoCarry
-no_carry_ever nan d t e = absurd (is_not (from_size nan (Is d) is_not e))
-no_carry_ever (inf s) d t e = absurd (is_not (from_size (inf s) (Is d) is_not e))
-no_carry_ever (fin s m g) d t e = no_carry_at m g d (few_digits binary32 s m g t) (from_size (fin s m g) (Is d) is_not e)
+no_carry_ever nan d t e = absurd (is_not (from_size nan (Ok d) is_not e))
+no_carry_ever (inf s) d t e = absurd (is_not (from_size (inf s) (Ok d) is_not e))
+no_carry_ever (fin s m g) d t e = no_carry_at m g d (few_digits binary32 s m g t) (from_size (fin s m g) (Ok d) is_not e)
 
 -- ---- a float under 2 ^ 64 is whole, or so small that its seconds are far from 2 ^ 64
 under_most : (m : ℕ) (e : ℤ) → m < 2 ^ 53 → m * up e < 2 ^ 64 * down e → closest (m * up e * 10 ^ 9) (down e) ≤ most
@@ -107,8 +97,8 @@ under_most m (negsuc k) M h = le_trans (closest_le (m * 1 * 10 ^ 9) (2 ^ suc k) 
     small m b M B = omega arith
 
 pub never_over : NeverOver
-never_over nan t e = nan_not (from_size nan (Refused Overflow) negative_not e)
-never_over (inf s) t e = nan_not (from_size (inf s) (Refused Overflow) negative_not e)
+never_over nan t e = nan_not (from_size nan (Err Overflow) negative_not e)
+never_over (inf s) t e = nan_not (from_size (inf s) (Err Overflow) negative_not e)
 never_over (fin s m g) t e =
-    let h = from_fraction (m * up g) (down g) (Refused Overflow) nan_not (from_size (fin s m g) (Refused Overflow) negative_not e) in
+    let h = from_fraction (m * up g) (down g) (Err Overflow) nan_not (from_size (fin s m g) (Err Overflow) negative_not e) in
     exact_fits (closest (m * up g * 10 ^ 9) (down g)) (under_most m g (few_digits binary64 s m g t) h.0) h.1

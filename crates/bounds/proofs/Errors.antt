@@ -1,13 +1,6 @@
 -- The bounds on the six floats out, from the number of their roundings. Assumes nothing.
-use mathlib.Core.Path.{◌≡◌, refl, sym, ap, ◌∙◌, subst}
-use mathlib.Core.Bool.{Bool, true, false, cond, true≢false}
-use mathlib.Core.Logic.{◌⊎◌, inl, inr}
-use Prim.Native.Nat.{ℕ, zero, suc, ◌+◌, ◌-◌, ◌*◌, ◌^◌, ◌≤◌, ◌<◌}
-use native.Mathlib.Nat.{le_trans, le_of_eq, eq-zero-or-pos, mul_assoc, mul_comm, mul_right_comm, mul-le-mul_right, mul-le-mul_left, le_of_mul-le-mul_right, mul-one, one-mul, zero-mul, le-add_right}
-use native.Mathlib.Omega.{arith}
-use lib.IntN.{pos}
-use lib.Dec.{eqb, eqb-suc-zero, lit≤, lit<}
-use lib.Pow.{pow_pos}
+use Rattle.std.proofs.Common.{◌≡◌, refl, sym, ap, ◌∙◌, subst, Bool, true, false, cond, true≢false, ◌⊎◌, inl, inr, ℕ, zero, suc, ◌+◌, ◌-◌, ◌*◌, ◌^◌, ◌≤◌, ◌<◌, le_trans, le_of_eq, eq-zero-or-pos, mul_assoc, mul_comm, mul_right_comm, mul-le-mul_right, mul-le-mul_left, le_of_mul-le-mul_right, mul-one, one-mul, zero-mul, le-add_right, arith, pos, eqb, lit≤, lit<, pow_pos}
+use lib.Dec.{eqb-suc-zero}
 use lib.Ieee.{Float, nan, inf, fin, Format, binary32, binary64, prec, emax, low, up, down, round, add, sum, mul, div, of_int}
 use lib.Ieee.Fits.{up_pos, down_pos}
 use lib.Ieee.Exact.{HasValue}

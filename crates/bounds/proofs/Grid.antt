@@ -1,13 +1,8 @@
 -- One rounding of a fraction a / c to a format, in units of the format's smallest value (`grid`): how far off it is, and that it keeps the order.
 -- Assumes nothing.
-use mathlib.Core.Path.{◌≡◌, sym, ap, ◌∙◌, subst}
-use mathlib.Core.Bool.{true, false, true≢false}
-use mathlib.Core.Logic.{◌⊎◌, inl, inr}
-use Prim.Native.Nat.{ℕ, zero, suc, ◌+◌, ◌-◌, ◌*◌, ◌/◌, ◌%◌, ◌^◌, ◌≤◌, ◌<◌, compare, zero-le}
-use native.Mathlib.Nat.{le_trans, le_of_eq, lt_of_le_of_lt, eq-zero-or-pos, suc-mul, mul_assoc, mul_comm, mul_right_comm, mul-le-mul_right, mul-le-mul_left, mul-pos, le-div_iff_mul-le, lt_of_mul-lt-mul_right, le_of_mul-le-mul_right, one-mul, mul-zero, zero-mul, mul-add, add-mul, div-eq_of_lt, mod-eq_of_lt, pow-suc, pow-zero}
-use native.Mathlib.Omega.{arith}
-use lib.Dec.{T, lit≤, lit<}
-use lib.Pow.{pow_pos, pow-add, pow_mono}
+use Rattle.std.proofs.Common.{◌≡◌, sym, ap, ◌∙◌, subst, true, false, true≢false, ◌⊎◌, inl, inr, ℕ, zero, suc, ◌+◌, ◌-◌, ◌*◌, ◌/◌, ◌%◌, ◌^◌, ◌≤◌, ◌<◌, zero-le, le_trans, le_of_eq, lt_of_le_of_lt, eq-zero-or-pos, suc-mul, mul_assoc, mul_comm, mul_right_comm, mul-le-mul_right, mul-le-mul_left, mul-pos, le-div_iff_mul-le, lt_of_mul-lt-mul_right, le_of_mul-le-mul_right, one-mul, mul-zero, zero-mul, mul-add, add-mul, mod-eq_of_lt, pow-suc, arith, T, lit≤, lit<, pow_pos, pow-add, pow_mono}
+use Prim.Native.Nat.{compare}
+use native.Mathlib.Nat.{div-eq_of_lt, pow-zero}
 use lib.Ieee.{Float, nan, inf, fin, Format, binary32, binary64, prec, low, size, round}
 use lib.Ieee.Digits.{size_reaches, size-le}
 use lib.Ieee.Exact.{HasValue}

@@ -1,11 +1,6 @@
 -- A duration's f64 seconds in units of 2 ^ -1074: the units of its seconds, of its nanoseconds and of their sum. Assumes nothing.
-use mathlib.Core.Path.{◌≡◌, sym, ap, ◌∙◌, subst}
-use mathlib.Core.Bool.{false}
-use Prim.Native.Nat.{ℕ, ◌+◌, ◌*◌, ◌^◌, ◌≤◌, ◌<◌}
-use native.Mathlib.Nat.{le_trans, le_of_eq, mul_right_comm, mul-le-mul_right, mul-pos, le_of_mul-le-mul_right, eq_of_mul-eq-mul_right, mul-one, add-mul}
-use native.Mathlib.Omega.{arith}
-use lib.Dec.{lit≤, lit<}
-use lib.Pow.{pow_pos}
+use Rattle.std.proofs.Common.{◌≡◌, sym, ap, ◌∙◌, subst, false, ℕ, ◌+◌, ◌*◌, ◌^◌, ◌≤◌, ◌<◌, le_trans, le_of_eq, mul_right_comm, mul-le-mul_right, mul-pos, le_of_mul-le-mul_right, mul-one, add-mul, arith, lit≤, lit<, pow_pos}
+use native.Mathlib.Nat.{eq_of_mul-eq-mul_right}
 use lib.Ieee.{Float, Format, binary64, round, div}
 use lib.Ieee.Exact.{HasValue}
 use lib.Ieee.Scale.{grid, round_same}

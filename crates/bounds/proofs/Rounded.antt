@@ -1,10 +1,6 @@
 -- Values that were rounded k times, over whole numbers: each of two is at most k parts in P above the other. Assumes nothing.
-use mathlib.Core.Path.{◌≡◌, sym, ap, ◌∙◌}
-use mathlib.Core.Logic.{inl, inr}
-use Prim.Native.Nat.{ℕ, ◌+◌, ◌-◌, ◌*◌, ◌^◌, ◌≤◌, ◌<◌}
-use native.Mathlib.Nat.{le_trans, le_of_eq, le_of_lt, mul_assoc, mul_comm, mul_right_comm, mul-mul-mul_comm, mul-le-mul, mul-le-mul_left, mul-le-mul_right, le_of_mul-le-mul_right, mul-add, add-mul, mul-one, pow-zero, pow-le-pow_left, sub-add_cancel, le-add_right, add_comm}
-use native.Mathlib.Omega.{arith}
-use lib.Pow.{pow-add}
+use Rattle.std.proofs.Common.{◌≡◌, sym, ap, ◌∙◌, inl, inr, ℕ, ◌+◌, ◌-◌, ◌*◌, ◌^◌, ◌≤◌, ◌<◌, le_trans, le_of_eq, le_of_lt, mul_assoc, mul_comm, mul_right_comm, mul-le-mul, mul-le-mul_left, mul-le-mul_right, le_of_mul-le-mul_right, mul-add, add-mul, mul-one, sub-add_cancel, le-add_right, add_comm, arith, pow-add}
+use native.Mathlib.Nat.{mul-mul-mul_comm, pow-zero, pow-le-pow_left}
 use Rattle.laws.proofs.Closest.{le_or_lt}
 use Rattle.bounds.specs.Distance.{apart}
 

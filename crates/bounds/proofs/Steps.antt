@@ -1,12 +1,6 @@
 -- A float that is a / c after k roundings, and what each operation makes of such floats: one rounding more. Assumes nothing.
-use mathlib.Core.Path.{◌≡◌, refl, sym, ap, ◌∙◌, subst}
-use mathlib.Core.Bool.{false}
-use mathlib.Core.Logic.{◌⊎◌, inl, inr}
-use Prim.Native.Nat.{ℕ, ◌+◌, ◌-◌, ◌*◌, ◌^◌, ◌≤◌, ◌<◌}
-use native.Mathlib.Nat.{eq-zero-or-pos, mul_assoc, mul_right_comm, mul-mul-mul_comm, mul-le-mul_right, mul-le-mul_left, mul-pos, mul-one, one-mul, zero-mul, add-mul, add-sub_of_le}
-use native.Mathlib.Omega.{arith}
-use lib.Dec.{lit≤, lit<}
-use lib.Pow.{pow_pos}
+use Rattle.std.proofs.Common.{◌≡◌, refl, sym, ap, ◌∙◌, subst, false, ◌⊎◌, inl, inr, ℕ, ◌+◌, ◌-◌, ◌*◌, ◌^◌, ◌≤◌, ◌<◌, eq-zero-or-pos, mul_assoc, mul_right_comm, mul-le-mul_right, mul-le-mul_left, mul-pos, mul-one, one-mul, zero-mul, add-mul, add-sub_of_le, arith, lit≤, lit<, pow_pos}
+use native.Mathlib.Nat.{mul-mul-mul_comm}
 use lib.Ieee.{Float, nan, inf, fin, Format, binary32, binary64, prec, low, up, down, round, add, mul, div}
 use lib.Ieee.Exact.{HasValue}
 use lib.Ieee.Scale.{grid}

@@ -1,21 +1,12 @@
 -- Demand 3: the distance, the return trip under 2 ^ 23 s, the distance of what comes back from there on, and where it is refused. Assumes nothing.
-use mathlib.Core.Path.{◌≡◌, refl, sym, ap, ◌∙◌, subst}
-use mathlib.Core.Bool.{true, false, true≢false}
-use mathlib.Core.Logic.{inl, inr}
-use Prim.Native.Nat.{ℕ, ◌+◌, ◌-◌, ◌*◌, ◌/◌, ◌%◌, ◌^◌, ◌≤◌, ◌<◌}
-use native.Mathlib.Nat.{le_trans, le_of_eq, lt_of_lt_of_le, lt_of_le_of_lt, mul_assoc, mul_comm, mul_left_comm, mul_right_comm, mul-le-mul_left, mul-le-mul_right, mul-lt-mul_of_pos_right, mul-pos, le_of_mul-le-mul_right, zero-mul, add-mul, suc-mul, mul-add, mul-div_cancel, div-add-mod', mul-mul-mul_comm, le_refl, add-lt-add_of_le_of_lt}
-use native.Mathlib.Omega.{arith}
-use lib.IntN.{pos}
-use lib.Dec.{lit≤, lit<}
-use lib.Pow.{pow_pos}
+use Rattle.std.proofs.Common.{◌≡◌, refl, sym, ap, ◌∙◌, subst, true, false, true≢false, inl, inr, ℕ, ◌+◌, ◌-◌, ◌*◌, ◌/◌, ◌%◌, ◌^◌, ◌≤◌, ◌<◌, le_trans, le_of_eq, lt_of_lt_of_le, lt_of_le_of_lt, mul_assoc, mul_comm, mul_left_comm, mul_right_comm, mul-le-mul_left, mul-le-mul_right, mul-lt-mul_of_pos_right, mul-pos, le_of_mul-le-mul_right, zero-mul, add-mul, suc-mul, mul-add, mul-div_cancel, div-add-mod', le_refl, add-lt-add_of_le_of_lt, arith, pos, lit≤, lit<, pow_pos, le-ltb, Ok}
+use native.Mathlib.Nat.{mul-mul-mul_comm}
 use lib.Ieee.{Float, nan, inf, fin, binary64, up, down, size, lt}
 use lib.Ieee.Exact.{HasValue}
 use lib.Ieee.Nearest.{closest}
 use lib.Ieee.Scale.{grid, overflow}
-use borrow.Author.Tests.{le-ltb}
 use Rattle.laws.proofs.Closest.{le_or_lt, closest_error, closest_is, closest_le}
 use Rattle.duration.specs.declared.Duration.{Duration}
-use Rattle.duration.specs.declared.Answer.TheVariants.{Is}
 use Rattle.duration.specs.Meaning.{N, most, of_nanos, exact}
 use Rattle.duration.proofs.Exact.{exact_is, exact-nanos}
 use Rattle.seconds.specs.Out.{seconds_as, whole}
@@ -259,7 +250,7 @@ module _ (d : Duration) (good : IsDuration d) where
         sized : S d good * 10 ^ 9 + d.nanos * u ≡ N d * u
         sized = ap (λ (z : ℕ). z * 10 ^ 9 + d.nanos * u) S-is ∙ ap (λ (z : ℕ). z + d.nanos * u) (mul_right_comm d.secs u (10 ^ 9)) ∙ sym (add-mul (d.secs * 10 ^ 9) d.nanos u)
 
-    comes_back : from_seconds x ≡ Is d
+    comes_back : from_seconds x ≡ Ok d
     comes_back =
         by_value x r u U (seconds-value d good)
         ∙ within r u (R-lt (omega arith))

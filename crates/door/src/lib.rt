@@ -1,72 +1,62 @@
 // The operations of `wide` as C functions, for the judge of the tests alone: no part of the product. A number goes in as its low
-// and its high word. Each function returns 0 or the refusal's number, and writes four words into `out`, or on a refusal none.
-#![tactic(auto)]
+// and its high word. Each function returns 0 or the refusal's number, and writes four words into `out`, or on a refusal none. The judge
+// calls each by its name, so they stay as many.
+#![tactic(auto, unfolding(crate::specs::Door::answer_reply, crate::specs::Door::division_reply, crate::specs::Door::code_of, crate::specs::Door::left_in))]
 
 ghost use Rattle.std.specs.Prelude.{◌≡◌, ◌+◌, ◌*◌, ◌/◌, ◌^◌};
-ghost use Rattle.wide.specs.Wide.{wide, words, answer, difference, order, division};
+ghost use Rattle.std.specs.Ordering.{nat_cmp};
+ghost use Rattle.wide.specs.Wide.{wide, words, answer, difference, division};
 ghost use Rattle.door.specs.Door.{pair, wide_reply, answer_reply, order_reply, division_reply, Gives};
 
 use refusal::Refusal;
-use wide::{DivAnswer, Order, Wide, WideAnswer};
+use std::cmp::Ordering;
+use wide::{Division, Wide};
 
 // What a call writes, or why it writes nothing.
-#[derive(Clone, Copy)]
-enum Reply {
-    Four(u64, u64, u64, u64),
-    Refused(Refusal),
-}
+type Reply = Result<[u64; 4], Refusal>;
 
 fn of_wide(w: Wide) -> Reply
     ensures { result ≡ wide_reply w }
 {
-    Reply::Four(w.lo, w.hi, 0, 0)
+    Ok([w.lo, w.hi, 0, 0])
 }
 
-#[tactic(auto, unfolding(crate::specs::Door::answer_reply))]
-fn of_answer(a: WideAnswer) -> Reply
+fn of_answer(a: Result<Wide, Refusal>) -> Reply
     ensures { result ≡ answer_reply a }
 {
-    match a {
-        WideAnswer::Is(w) => of_wide(w),
-        WideAnswer::Refused(f) => Reply::Refused(f),
-    }
+    of_wide(a?)
 }
 
-fn of_order(o: Order) -> Reply
+fn of_order(o: Ordering) -> Reply
     ensures { result ≡ order_reply o }
 {
     match o {
-        Order::Less => Reply::Four(0, 0, 0, 0),
-        Order::Equal => Reply::Four(1, 0, 0, 0),
-        Order::Greater => Reply::Four(2, 0, 0, 0),
+        Ordering::Less => Ok([0, 0, 0, 0]),
+        Ordering::Equal => Ok([1, 0, 0, 0]),
+        Ordering::Greater => Ok([2, 0, 0, 0]),
     }
 }
 
-#[tactic(auto, unfolding(crate::specs::Door::division_reply))]
-fn of_division(a: DivAnswer) -> Reply
+fn of_division(a: Result<Division, Refusal>) -> Reply
     ensures { result ≡ division_reply a }
 {
-    match a {
-        DivAnswer::Divided(x) => {
-            let q = x.quotient;
-            let r = x.remainder;
-            Reply::Four(q.lo, q.hi, r.lo, r.hi)
-        }
-        DivAnswer::Refused(f) => Reply::Refused(f),
-    }
+    let Division {
+        quotient,
+        remainder,
+    } = a?;
+    Ok([quotient.lo, quotient.hi, remainder.lo, remainder.hi])
 }
 
 // The reply, written and numbered: what every function below ends with.
-#[tactic(auto, unfolding(crate::specs::Door::code_of, crate::specs::Door::left_in))]
 fn finish(reply: Reply, out: &mut [u64; 4]) -> u32
     ensures { Gives reply result out.old out.new }
 {
     match reply {
-        Reply::Four(a, b, c, d) => {
-            *out = [a, b, c, d];
+        Ok(words) => {
+            *out = words;
             0
         }
-        Reply::Refused(f) => refusal::number(f),
+        Err(f) => refusal::number(f),
     }
 }
 
@@ -109,7 +99,7 @@ pub extern "C" fn door_sub(xl: u64, xh: u64, yl: u64, yh: u64, out: &mut [u64; 4
 
 #[unsafe(no_mangle)]
 pub extern "C" fn door_compare(xl: u64, xh: u64, yl: u64, yh: u64, out: &mut [u64; 4]) -> u32
-    ensures { Gives (order_reply (order (wide (pair xl xh)) (wide (pair yl yh)))) result out.old out.new }
+    ensures { Gives (order_reply (nat_cmp (wide (pair xl xh)) (wide (pair yl yh)))) result out.old out.new }
 {
     finish(
         of_order(wide::compare(Wide { hi: xh, lo: xl }, Wide { hi: yh, lo: yl })),

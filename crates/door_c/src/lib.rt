@@ -2,7 +2,8 @@
 #![tactic(auto)]
 
 ghost use Rattle.std.specs.Prelude.{◌+◌, ◌*◌, ◌/◌, ◌^◌};
-ghost use Rattle.wide.specs.Wide.{wide, words, answer, difference, order, division};
+ghost use Rattle.std.specs.Ordering.{nat_cmp};
+ghost use Rattle.wide.specs.Wide.{wide, words, answer, difference, division};
 ghost use Rattle.door.specs.Door.{pair, wide_reply, answer_reply, order_reply, division_reply, Gives};
 
 #[unsafe(no_mangle)]
@@ -35,7 +36,7 @@ pub extern "C" fn door_sub(xl: u64, xh: u64, yl: u64, yh: u64, out: &mut [u64; 4
 
 #[unsafe(no_mangle)]
 pub extern "C" fn door_compare(xl: u64, xh: u64, yl: u64, yh: u64, out: &mut [u64; 4]) -> u32
-    ensures { Gives (order_reply (order (wide (pair xl xh)) (wide (pair yl yh)))) result out.old out.new }
+    ensures { Gives (order_reply (nat_cmp (wide (pair xl xh)) (wide (pair yl yh)))) result out.old out.new }
 {
     door::door_compare(xl, xh, yl, yh, out)
 }

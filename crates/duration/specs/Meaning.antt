@@ -1,7 +1,8 @@
 -- What a duration means, and the exact answer of a whole number of nanoseconds. Assumes nothing.
-use Rattle.std.specs.Prelude.{ℕ, ◌+◌, ◌*◌, ◌-◌, ◌/◌, ◌%◌, ◌^◌, Bool, cond, leb, ltb}
-use Rattle.refusal.specs.declared.Refusal.TheVariants.{Overflow}
-pub use Rattle.duration.specs.declared.{Duration.Duration, Answer.Answer}
+use Rattle.std.specs.Prelude.{ℕ, ◌+◌, ◌*◌, ◌-◌, ◌/◌, ◌%◌, ◌^◌, Bool, cond, leb, ltb, Result, Ok, Err}
+use Rattle.refusal.specs.declared.Refusal.{Refusal}
+use Rattle.refusal.specs.declared.Refusal.TheVariants.{Overflow, BadDuration}
+pub use Rattle.duration.specs.declared.Duration.{Duration}
 
 -- the whole nanoseconds that a pair means
 abbrev pub N : Duration → ℕ
@@ -10,6 +11,10 @@ N d = d.secs * 10 ^ 9 + d.nanos
 -- whether a pair is a duration: its nanoseconds are below a second
 unfoldable pub valid : Duration → Bool
 valid d = ltb d.nanos (10 ^ 9)
+
+-- the pair itself, or BadDuration exactly where it is no duration
+unfoldable pub checked : Duration → Result Duration Refusal
+checked d = cond (valid d) (Ok d) (Err BadDuration)
 
 -- the nanoseconds of MAX
 abbrev pub most : ℕ
@@ -20,5 +25,5 @@ abbrev pub of_nanos : ℕ → Duration
 of_nanos n = record { secs = n / 10 ^ 9; nanos = n % 10 ^ 9 }
 
 -- the duration of n nanoseconds, or Overflow exactly where n is above MAX's
-unfoldable pub exact : ℕ → Answer
-exact n = cond (leb n most) (Answer.Is (of_nanos n)) (Answer.Refused Overflow)
+unfoldable pub exact : ℕ → Result Duration Refusal
+exact n = cond (leb n most) (Ok (of_nanos n)) (Err Overflow)

@@ -1,52 +1,33 @@
-// A duration, and the answers of the operations on it: a value or a refusal by name.
-#![tactic(auto)]
+// A duration, the six constants, and which pairs are durations.
+#![tactic(auto, unfolding(wide::specs::Wide::wide, crate::specs::Meaning::valid, crate::specs::Meaning::exact, crate::specs::Meaning::checked, crate::specs::Parts::whole_secs, crate::specs::Parts::subsec, crate::specs::Parts::count, crate::specs::Parts::is_zero, crate::specs::Parts::compared))]
+
+ghost use Rattle.std.specs.Prelude.{◌≡◌};
+ghost use Rattle.duration.specs.Meaning.{checked};
 
 use refusal::Refusal;
-use wide::Order;
 
 pub mod constructors;
 pub mod parts;
 
-// Whole seconds and the nanoseconds below a second. Any pair can be handed in: one with 10^9 nanoseconds or more is refused.
-#[derive(Clone, Copy)]
+// Whole seconds and the nanoseconds below a second, in the order of their nanoseconds. Any pair can be handed in: one with 10^9
+// nanoseconds or more is refused.
+#[derive(Clone, Copy, Debug, PartialEq, Eq, PartialOrd, Ord)]
 pub struct Duration {
     pub secs: u64,
     pub nanos: u32,
 }
 
-// A duration, or why there is none.
-#[derive(Clone, Copy)]
-pub enum Answer {
-    Is(Duration),
-    Refused(Refusal),
-}
-
-// A number of one word, or why there is none.
-#[derive(Clone, Copy)]
-pub enum WordAnswer {
-    Is(u64),
-    Refused(Refusal),
-}
-
-// A number below a second, or why there is none.
-#[derive(Clone, Copy)]
-pub enum PartAnswer {
-    Is(u32),
-    Refused(Refusal),
-}
-
-// Yes or no, or why neither.
-#[derive(Clone, Copy)]
-pub enum FlagAnswer {
-    Is(bool),
-    Refused(Refusal),
-}
-
-// An order, or why there is none.
-#[derive(Clone, Copy)]
-pub enum OrderAnswer {
-    Is(Order),
-    Refused(Refusal),
+impl Duration {
+    // The pair itself, where it is a duration: what every operation begins with.
+    pub fn checked(self) -> Result<Duration, Refusal>
+        ensures { result ≡ checked self }
+    {
+        if self.nanos < 1_000_000_000 {
+            Ok(self)
+        } else {
+            Err(Refusal::BadDuration)
+        }
+    }
 }
 
 pub const SECOND: Duration = Duration { secs: 1, nanos: 0 };

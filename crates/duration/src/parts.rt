@@ -1,103 +1,67 @@
-// What a duration is made of: whole seconds, the parts below a second, the wide counts, whether it is zero, and the order.
+// What a duration is made of: whole seconds, the parts below a second, the wide counts, whether it is zero, and the order. The names
+// are the Rust's, and each function is a line or two over its own constants, which a const parameter would not shorten.
 ghost use Rattle.std.specs.Prelude.{◌≡◌, ◌^◌};
 ghost use Rattle.duration.specs.Parts.{whole_secs, subsec, count, is_zero, compared};
 
-use crate::{Duration, FlagAnswer, OrderAnswer, PartAnswer, WordAnswer};
+use crate::{Duration, ZERO};
 use refusal::Refusal;
-use wide::{Wide, WideAnswer};
+use std::cmp::Ordering;
+use wide::Wide;
 
-pub fn as_secs(d: Duration) -> WordAnswer
+pub fn as_secs(d: Duration) -> Result<u64, Refusal>
     ensures { result ≡ whole_secs d }
 {
-    if 1_000_000_000 <= d.nanos {
-        return WordAnswer::Refused(Refusal::BadDuration);
-    }
-    WordAnswer::Is(d.secs)
+    Ok(d.checked()?.secs)
 }
 
-pub fn subsec_millis(d: Duration) -> PartAnswer
+pub fn subsec_millis(d: Duration) -> Result<u32, Refusal>
     ensures { result ≡ subsec (10 ^ 6) d }
 {
-    if 1_000_000_000 <= d.nanos {
-        return PartAnswer::Refused(Refusal::BadDuration);
-    }
-    PartAnswer::Is(d.nanos / 1_000_000)
+    Ok(d.checked()?.nanos / 1_000_000)
 }
 
-pub fn subsec_micros(d: Duration) -> PartAnswer
+pub fn subsec_micros(d: Duration) -> Result<u32, Refusal>
     ensures { result ≡ subsec (10 ^ 3) d }
 {
-    if 1_000_000_000 <= d.nanos {
-        return PartAnswer::Refused(Refusal::BadDuration);
-    }
-    PartAnswer::Is(d.nanos / 1_000)
+    Ok(d.checked()?.nanos / 1_000)
 }
 
-pub fn subsec_nanos(d: Duration) -> PartAnswer
+pub fn subsec_nanos(d: Duration) -> Result<u32, Refusal>
     ensures { result ≡ subsec 1 d }
 {
-    if 1_000_000_000 <= d.nanos {
-        return PartAnswer::Refused(Refusal::BadDuration);
-    }
-    PartAnswer::Is(d.nanos)
+    Ok(d.checked()?.nanos)
 }
 
-pub fn as_millis(d: Duration) -> WideAnswer
+pub fn as_millis(d: Duration) -> Result<Wide, Refusal>
     ensures { result ≡ count (10 ^ 6) d }
 {
-    if 1_000_000_000 <= d.nanos {
-        return WideAnswer::Refused(Refusal::BadDuration);
-    }
-    WideAnswer::Is(wide::scaled(d.secs, 1_000, d.nanos / 1_000_000))
+    let Duration { secs, nanos } = d.checked()?;
+    Ok(wide::scaled(secs, 1_000, nanos / 1_000_000))
 }
 
-pub fn as_micros(d: Duration) -> WideAnswer
+pub fn as_micros(d: Duration) -> Result<Wide, Refusal>
     ensures { result ≡ count (10 ^ 3) d }
 {
-    if 1_000_000_000 <= d.nanos {
-        return WideAnswer::Refused(Refusal::BadDuration);
-    }
-    WideAnswer::Is(wide::scaled(d.secs, 1_000_000, d.nanos / 1_000))
+    let Duration { secs, nanos } = d.checked()?;
+    Ok(wide::scaled(secs, 1_000_000, nanos / 1_000))
 }
 
-pub fn as_nanos(d: Duration) -> WideAnswer
+pub fn as_nanos(d: Duration) -> Result<Wide, Refusal>
     ensures { result ≡ count 1 d }
 {
-    if 1_000_000_000 <= d.nanos {
-        return WideAnswer::Refused(Refusal::BadDuration);
-    }
-    WideAnswer::Is(wide::scaled(d.secs, 1_000_000_000, d.nanos))
+    let Duration { secs, nanos } = d.checked()?;
+    Ok(wide::scaled(secs, 1_000_000_000, nanos))
 }
 
-pub fn is_zero(d: Duration) -> FlagAnswer
+pub fn is_zero(d: Duration) -> Result<bool, Refusal>
     ensures { result ≡ is_zero d }
 {
-    if 1_000_000_000 <= d.nanos {
-        return FlagAnswer::Refused(Refusal::BadDuration);
-    }
-    if d.secs == 0 {
-        return FlagAnswer::Is(d.nanos == 0);
-    }
-    FlagAnswer::Is(false)
+    Ok(d.checked()? == ZERO)
 }
 
-// The order of two durations, Rust's `cmp`. Of valid pairs it is that of two words, seconds above nanoseconds.
-pub fn cmp(a: Duration, b: Duration) -> OrderAnswer
+// The order of two durations, Rust's `cmp`.
+pub fn cmp(a: Duration, b: Duration) -> Result<Ordering, Refusal>
     ensures { result ≡ compared a b }
 {
-    if 1_000_000_000 <= a.nanos {
-        return OrderAnswer::Refused(Refusal::BadDuration);
-    }
-    if 1_000_000_000 <= b.nanos {
-        return OrderAnswer::Refused(Refusal::BadDuration);
-    }
-    let x = Wide {
-        hi: a.secs,
-        lo: a.nanos as u64,
-    };
-    let y = Wide {
-        hi: b.secs,
-        lo: b.nanos as u64,
-    };
-    OrderAnswer::Is(wide::compare(x, y))
+    Ok(a.checked()?.cmp(&b.checked()?))
 }

@@ -1,8 +1,8 @@
 -- Lists that are written into: what a write leaves, two writes in a row, and the loops that write. Assumes nothing.
 use mathlib.Core.Path.{◌≡◌, refl, sym, ap, ◌∙◌}
-use mathlib.Core.List.{List, [], ◌∷◌, ◌++◌}
+use mathlib.Core.List.{List, [], ◌∷◌, ◌++◌, append-nil}
 use Prim.Native.Nat.{ℕ, suc, ◌+◌, ◌-◌, ◌≤◌, ◌<◌}
-use native.Mathlib.Nat.{add-suc, suc-add, add-zero}
+use native.Mathlib.Nat.{add-suc, suc-add, add-zero, zero-add}
 use native.Mathlib.Numerals.{add-one}
 use native.Mathlib.Omega.{arith}
 use lib.ListN.{length, take, drop, set, get_or, length-append, length-replicate}
@@ -50,32 +50,20 @@ pub as_bytes : {xs zs : List ℕ} {i r : ℕ} {a b : List ℕ} → a ≡ b → W
 as_bytes e w = rw e at w
 
 -- ---- a loop that writes src from its front: to write what is left of src gives what is wanted
-pub write_none : (xs src : List ℕ) (at : ℕ) → splice xs (at + 0) (drop 0 src) ≡ splice xs at src
-write_none xs src at = rw add-zero
-
-pub write_more : (xs src : List ℕ) (at i : ℕ) → i < length src → splice (set xs (at + i) (get_or src i 0)) (at + (i + 1)) (drop (i + 1) src) ≡ splice xs (at + i) (drop i src)
+pub write_more : (xs src : List ℕ) (i : ℕ) → i < length src → splice (set xs i (get_or src i 0)) (i + 1) (drop (i + 1) src) ≡ splice xs i (drop i src)
 unfolding splice
-write_more xs src at i h = rw (add-one, add-suc, drop-cons src i 0)
-
-pub written : {xs zs src : List ℕ} {at i : ℕ} → i ≡ length src → splice zs (at + i) (drop i src) ≡ splice xs at src → Wrote xs zs at (at + i) src
-unfolding splice
-written {xs} {zs} {src} {at} {i} h e = record { next = omega arith; bytes = rw (h, drop-length) at e }
+write_more xs src i h = rw (add-one, drop-cons src i 0)
 
 -- ---- the same for a loop that writes n times b
 pub length-times : (n b : ℕ) → length (times n b) ≡ n
 unfolding times
 length-times n b = length-replicate n b
 
-pub fill_none : (xs : List ℕ) (at n b : ℕ) → splice xs (at + 0) (times (n - 0) b) ≡ splice xs at (times n b)
-fill_none xs at n b = let e : n - 0 ≡ n = omega arith in rw (add-zero, e)
-
-pub fill_more : (xs : List ℕ) (at i n b : ℕ) → i < n → splice (set xs (at + i) b) (at + (i + 1)) (times (n - (i + 1)) b) ≡ splice xs (at + i) (times (n - i) b)
+pub fill_more : (xs : List ℕ) (i n b : ℕ) → i < n → splice (set xs i b) (i + 1) (times (n - (i + 1)) b) ≡ splice xs i (times (n - i) b)
 unfolding splice times
-fill_more xs at i n b h = let e : n - i ≡ suc (n - (i + 1)) = omega arith in rw (e, add-one, add-suc)
+fill_more xs i n b h = let e : n - i ≡ suc (n - (i + 1)) = omega arith in rw (e, add-one)
 
-pub filled : {xs zs : List ℕ} {at i n : ℕ} (b : ℕ) → i ≡ n → splice zs (at + i) (times (n - i) b) ≡ splice xs at (times n b) → Wrote xs zs at (at + i) (times n b)
-unfolding splice times
-filled {xs} {zs} {at} {i} {n} b h e = record {
-  next = omega (arith, length-times n b);
-  bytes = let d : n - i ≡ 0 = omega arith in rw d at e;
-}
+-- a write over all that is there
+pub write_all : (xs ys : List ℕ) → length xs ≡ length ys → splice xs 0 ys ≡ ys
+write_all xs ys h =
+    splice_is xs 0 ys (omega arith) ∙ ap (λ (z : List ℕ). ys ++ z) (ap (λ (k : ℕ). drop k xs) (zero-add (length ys) ∙ sym h) ∙ drop-length xs) ∙ append-nil ys

@@ -19,10 +19,6 @@ little (b ∷ bs) = b + 256 * little bs
 abbrev pub LittleUndoes : Type 0
 LittleUndoes = (k n : ℕ) → n < 256 ^ k → little (little_endian k n) ≡ n
 
--- the number of the k bytes from p on
-unfoldable pub word_at : ℕ → ℕ → List ℕ → ℕ
-word_at k p bs = little (take k (drop p bs))
-
 -- the first n numbers of k bytes each
 unfoldable pub numbers : ℕ → ℕ → List ℕ → List ℕ
 numbers k zero bs = []

@@ -5,7 +5,7 @@ ghost use Rattle.std.specs.Prelude.{◌≡◌};
 ghost use Rattle.refusal.specs.Numbers.{number_of};
 
 // Why a call has no answer. The order is that of the numbers.
-#[derive(Clone, Copy)]
+#[derive(Clone, Copy, Debug, PartialEq, Eq)]
 pub enum Refusal {
     Negative,
     OverflowOrNan,
@@ -20,7 +20,8 @@ pub enum Refusal {
     BadUnit,
 }
 
-// The refusal's number in document 01's table, which is what the C functions return.
+// The refusal's number in document 01's table, which is what the C functions return: docs/CONTRACTS.md names it, so it stays a function
+// and no `From`. A match, beside which the table can be held.
 pub fn number(r: Refusal) -> u32
     ensures { result ≡ number_of r }
 {

@@ -9,8 +9,7 @@ use lib.Dec.{leb, ltb, eqb}
 use Rattle.duration.specs.declared.Duration.{Duration}
 use Rattle.duration.specs.Meaning.{N, valid, most}
 use Rattle.sums.specs.Sum.{each_valid, within, whole_rows}
-use Rattle.text.specs.declared.Count.{Count}
-use Rattle.text.specs.declared.Count.TheVariants.{Unset, Set}
+use Rattle.std.specs.Prelude.{Option, None, Some}
 use Rattle.text.specs.declared.Options.{Options}
 use Rattle.text.specs.Options as Options
 use Rattle.rules.specs.Refusals.{any, bad, above, bad_options}
@@ -69,10 +68,10 @@ are_whole m n = go (eqb (m % 8) 0) (eqb (n % 4) 0)
     go false b = refl
 
 -- ---- options
-within-limit : (c : Count) → Options.within c ≡ not (above c)
+within-limit : (c : Option ℕ) → Options.within c ≡ not (above c)
 unfolding Options.within
-within-limit Unset = refl
-within-limit (Set n) = not_above n 255
+within-limit None = refl
+within-limit (Some n) = not_above n 255
 
 pub are_accepted : (o : Options) → Options.accepts o ≡ not (bad_options o)
 unfolding Options.accepts

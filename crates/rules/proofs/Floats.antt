@@ -10,8 +10,8 @@ use lib.Dec.{leb, ltb, eqb}
 use lib.Ieee.{Float, nan, inf, fin, up, down, below, level, lt, eq, le, is_nan}
 use lib.Ieee.Fits.{down_pos}
 use lib.Ieee.Nearest.{closest}
+use Rattle.std.specs.Prelude.{Err}
 use Rattle.refusal.specs.declared.Refusal.TheVariants.{OverflowOrNan}
-use Rattle.duration.specs.declared.Answer.TheVariants.{Refused}
 use Rattle.duration.specs.Meaning.{exact}
 use Rattle.seconds.specs.From.{of_fraction, of_size}
 use Rattle.rules.proofs.Checks.{differ}
@@ -40,7 +40,7 @@ zero_size : (s : Bool) (m d : ℕ) → below s (m * 1) false (0 * d) ≡ false �
 zero_size true m d h e = omega (arith, ltb-false 0 (m * 1 + 0 * d) h)
 zero_size false m d h e = absurd (differ e refl)
 
-pub sized : (x : Float) → negative x ≡ false → (n : ℕ) × (of_size x ≡ cond (large x) (Refused OverflowOrNan) (exact n))
+pub sized : (x : Float) → negative x ≡ false → (n : ℕ) × (of_size x ≡ cond (large x) (Err OverflowOrNan) (exact n))
 unfolding of_fraction lt eq le is_nan
 sized nan h = (0, refl)
 sized (inf true) h = absurd (differ refl h)

@@ -10,6 +10,7 @@ use lib.ListN.{length, take, drop, get_or}
 use lib.Dec.{T, leb, ltb, eqb, lit≤}
 use lib.Ieee.{Float, binary64, fits, mul, div}
 use lib.Ieee.Fits.{mul-fits, div-fits}
+use Rattle.std.specs.Prelude.{Result, Ok, Err}
 use Rattle.laws.specs.Bytes.{little_endian, decoded}
 use Rattle.refusal.specs.Numbers.{number_of}
 use Rattle.refusal.specs.declared.Refusal.{Refusal}
@@ -17,14 +18,10 @@ use Rattle.refusal.specs.declared.Refusal.TheVariants as R
 use Rattle.wide.specs.Wide.{answer, difference, division}
 use Rattle.door.specs.Door as Door
 use Rattle.duration.specs.declared.Duration.{Duration}
-use Rattle.duration.specs.declared.Answer.{Answer}
-use Rattle.duration.specs.declared.Answer.TheVariants.{Is, Refused}
 use Rattle.duration.specs.Meaning.{N, valid, most, of_nanos, exact}
 use Rattle.duration.specs.Units.{units, from_unit_number}
 use Rattle.duration.specs.Parts.{whole_secs, subsec, count, is_zero, compared}
 use Rattle.arithmetic.specs.Arithmetic.{added, subtracted, apart, times, shared, floor_of, ceil_of, saturated}
-use Rattle.sums.specs.declared.SumAnswer.{SumAnswer}
-use Rattle.sums.specs.declared.SumAnswer.TheVariants as Sum
 use Rattle.sums.specs.Sum as Sums
 use Rattle.seconds.specs.Out.{seconds_as}
 use Rattle.seconds.specs.From.{of_size, from_seconds, times_float, over_float}
@@ -32,8 +29,7 @@ use Rattle.bounds.proofs.Conversions.{never_over}
 use Rattle.text.specs.Options.{accepts}
 use Rattle.text.specs.Text.{text}
 use Rattle.text.specs.Answer.{fitted, answer_of}
-use Rattle.reply.specs.declared.Reply.TheVariants as C
-use Rattle.reply.specs.Reply.{code_of, left_in, duration_reply, sum_reply, wide_reply, word_reply, part_reply, flag_reply, order_reply, f64_reply, f32_reply}
+use Rattle.reply.specs.Reply.{code_of, left_in, duration_reply, wide_reply, word_reply, flag_reply, order_reply, f64_reply, f32_reply}
 use Rattle.rules.specs.Refusals.{Grounds, any, holds, order, first_holding, chosen, met, Ruled, bad, converted, listed, bad_options, text_code, Table, NeverBad, Saturates, Unchanged}
 use Rattle.rules.proofs.Checks.{◌also◌, differ, neither, exactly}
 use Rattle.rules.proofs.Conditions.{not_above, not_reached, is_valid, are_valid, at_most, all_valid, is_within, are_whole, are_accepted}
@@ -70,17 +66,17 @@ module _ {A : Type 0} (code : A → ℕ) {l : Grounds} where
   two a b x y f h = check R.BadDuration (valid a && valid b) (bad a || bad b) x y (are_valid a b) f refl h
 
 -- ---- an exact result
-module _ (code : Answer → ℕ) {l : Grounds} (h : (d : Duration) → Obeys (code (Is d)) l) where
-  exact_is : (n : ℕ) → code (Refused R.Overflow) ≡ 3 → chosen ((R.Overflow, true) ∷ l) ≡ 3 → Obeys (code (exact n)) ((R.Overflow, ltb most n) ∷ l)
+module _ (code : Result Duration Refusal → ℕ) {l : Grounds} (h : (d : Duration) → Obeys (code (Ok d)) l) where
+  exact_is : (n : ℕ) → code (Err R.Overflow) ≡ 3 → chosen ((R.Overflow, true) ∷ l) ≡ 3 → Obeys (code (exact n)) ((R.Overflow, ltb most n) ∷ l)
   unfolding exact
-  exact_is n f g = check code R.Overflow (leb n most) (ltb most n) (Is (of_nanos n)) (Refused R.Overflow) (not_above n most) f g (λ _. h (of_nanos n))
+  exact_is n f g = check code R.Overflow (leb n most) (ltb most n) (Ok (of_nanos n)) (Err R.Overflow) (not_above n most) f g (λ _. h (of_nanos n))
 
   -- one that is never refused
-  exact_not : (n : ℕ) → (exact n ≡ Refused R.Overflow → ⊥) → Obeys (code (exact n)) l
+  exact_not : (n : ℕ) → (exact n ≡ Err R.Overflow → ⊥) → Obeys (code (exact n)) l
   unfolding exact
   exact_not n k = go (leb n most) k
     where
-      go : (b : Bool) → (cond b (Is (of_nanos n)) (Refused R.Overflow) ≡ Refused R.Overflow → ⊥) → Obeys (code (cond b (Is (of_nanos n)) (Refused R.Overflow))) l
+      go : (b : Bool) → (cond b (Ok (of_nanos n)) (Err R.Overflow) ≡ Err R.Overflow → ⊥) → Obeys (code (cond b (Ok (of_nanos n)) (Err R.Overflow))) l
       go true k = h (of_nanos n)
       go false k = absurd (k refl)
 
@@ -101,10 +97,10 @@ module _ (room : ℕ) where
       go true = record { is = refl }
       go false = record { is = refl }
 
-  abbrev code : Answer → ℕ
+  abbrev code : Result Duration Refusal → ℕ
   code z = code_of (duration_reply z) room
 
-  answered : (d : Duration) → Obeys (code (Is d)) small
+  answered : (d : Duration) → Obeys (code (Ok d)) small
   unfolding code_of
   answered d = enough
 
@@ -114,21 +110,21 @@ module _ (room : ℕ) where
 
   unit_row : (i j : ℕ) → Obeys (code (from_unit_number i j)) ((R.BadUnit, ltb 7 j) ∷ (R.Overflow, ltb most (i * get_or units j 0)) ∷ small)
   unfolding code_of from_unit_number
-  unit_row i j = check code R.BadUnit (leb j 7) (ltb 7 j) (exact (i * get_or units j 0)) (Refused R.BadUnit) (not_above j 7) refl refl (λ _. exact_row _)
+  unit_row i j = check code R.BadUnit (leb j 7) (ltb 7 j) (exact (i * get_or units j 0)) (Err R.BadUnit) (not_above j 7) refl refl (λ _. exact_row _)
 
   -- ---- lists
-  abbrev sum-code : SumAnswer → ℕ
-  sum-code z = code_of (sum_reply z) room
+  abbrev sum-code : Result Duration Refusal → ℕ
+  sum-code z = code_of (duration_reply z) room
 
   rows_row : (ds : List Duration) → Obeys (sum-code (Sums.sum_answer ds)) ((R.BadRow, any bad ds) ∷ (R.Overflow, ltb most (Sums.total ds)) ∷ small)
   unfolding code_of Sums.sum_answer
-  rows_row ds = check sum-code R.BadRow (Sums.each_valid ds) (any bad ds) _ (Sum.Refused R.BadRow) (all_valid ds) refl refl (λ _. exact_is (λ (z : Answer). sum-code (Sums.summed z)) (λ _. enough) (Sums.total ds) refl refl)
+  rows_row ds = check sum-code R.BadRow (Sums.each_valid ds) (any bad ds) _ (Err R.BadRow) (all_valid ds) refl refl (λ _. exact_is (λ (z : Result Duration Refusal). sum-code z) (λ _. enough) (Sums.total ds) refl refl)
 
   sum_row : (ss ns : List ℕ) (i j : ℕ) → Obeys (sum-code (Sums.sum_of ss ns i j)) (listed false ss ns i j ++ small)
   unfolding code_of Sums.sum_of
-  sum_row ss ns i j = check sum-code R.BadRange (Sums.within (length ss) (length ns) i j) _ _ (Sum.Refused R.BadRange) (is_within (length ss) (length ns) i j) refl refl (λ _. rows_row (take (j - i) (drop i (Sums.rows ss ns))))
+  sum_row ss ns i j = check sum-code R.BadRange (Sums.within (length ss) (length ns) i j) _ _ (Err R.BadRange) (is_within (length ss) (length ns) i j) refl refl (λ _. rows_row (take (j - i) (drop i (Sums.rows ss ns))))
 
-  odd_row : (odd : Bool) (ss ns : List ℕ) (i j : ℕ) → Obeys (sum-code (cond (not odd) (Sums.sum_of ss ns i j) (Sum.Refused R.BadRange))) (listed odd ss ns i j ++ small)
+  odd_row : (odd : Bool) (ss ns : List ℕ) (i j : ℕ) → Obeys (sum-code (cond (not odd) (Sums.sum_of ss ns i j) (Err R.BadRange))) (listed odd ss ns i j ++ small)
   unfolding code_of
   odd_row true ss ns i j = record { is = refl }
   odd_row false ss ns i j = sum_row ss ns i j
@@ -143,30 +139,30 @@ module _ (room : ℕ) where
     unfolding code_of from_seconds
     size-row h =
         let z = Floats.sized x h in
-        rw z.1 (check_if code R.OverflowOrNan (Floats.large x) (exact z.0) (Refused R.OverflowOrNan) refl refl (λ k.
+        rw z.1 (check_if code R.OverflowOrNan (Floats.large x) (exact z.0) (Err R.OverflowOrNan) refl refl (λ k.
         exact_not code answered z.0 (λ e. never_over x f (
-        ap (λ (b : Bool). cond b (Refused R.Negative) (of_size x)) h ∙ z.1 ∙ ap (λ (b : Bool). cond b (Refused R.OverflowOrNan) (exact z.0)) k ∙ e))))
+        ap (λ (b : Bool). cond b (Err R.Negative) (of_size x)) h ∙ z.1 ∙ ap (λ (b : Bool). cond b (Err R.OverflowOrNan) (exact z.0)) k ∙ e))))
 
     float-row : Obeys (code (from_seconds x)) (converted x ++ small)
     unfolding code_of from_seconds
-    float-row = check_if code R.Negative (Floats.negative x) (of_size x) (Refused R.Negative) refl refl size-row
+    float-row = check_if code R.Negative (Floats.negative x) (of_size x) (Err R.Negative) refl refl size-row
 
 -- ---- saturation
-saturated-exact : (n : ℕ) → saturated (exact n) ≡ Is (of_nanos (min n most))
+saturated-exact : (n : ℕ) → saturated (exact n) ≡ Ok (of_nanos (min n most))
 unfolding saturated exact
 saturated-exact n = go (leb n most) refl
   where
-    go : (b : Bool) → leb n most ≡ b → saturated (cond b (Is (of_nanos n)) (Refused R.Overflow)) ≡ Is (of_nanos (min n most))
-    go true e = let h : n ≡ min n most = omega (arith, leb-true n most e) in ap (λ (k : ℕ). Is (of_nanos k)) h
-    go false e = let h : most ≡ min n most = omega (arith, leb-false n most e) in ap (λ (k : ℕ). Is (of_nanos k)) h
+    go : (b : Bool) → leb n most ≡ b → saturated (cond b (Ok (of_nanos n)) (Err R.Overflow)) ≡ Ok (of_nanos (min n most))
+    go true e = let h : n ≡ min n most = omega (arith, leb-true n most e) in ap (λ (k : ℕ). Ok (of_nanos k)) h
+    go false e = let h : most ≡ min n most = omega (arith, leb-false n most e) in ap (λ (k : ℕ). Ok (of_nanos k)) h
 
-saturated-less : (m n : ℕ) → m ≤ most → saturated (cond (leb n m) (exact (m - n)) (Refused R.Underflow)) ≡ Is (of_nanos (m - n))
+saturated-less : (m n : ℕ) → m ≤ most → saturated (cond (leb n m) (exact (m - n)) (Err R.Underflow)) ≡ Ok (of_nanos (m - n))
 unfolding saturated exact
 saturated-less m n k = go (leb n m) refl
   where
-    go : (b : Bool) → leb n m ≡ b → saturated (cond b (exact (m - n)) (Refused R.Underflow)) ≡ Is (of_nanos (m - n))
+    go : (b : Bool) → leb n m ≡ b → saturated (cond b (exact (m - n)) (Err R.Underflow)) ≡ Ok (of_nanos (m - n))
     go true e = rw (le-leb (m - n) most (omega arith))
-    go false e = let h : 0 ≡ m - n = omega (arith, leb-false n m e) in ap (λ (k : ℕ). Is (of_nanos k)) h
+    go false e = let h : 0 ≡ m - n = omega (arith, leb-false n m e) in ap (λ (k : ℕ). Ok (of_nanos k)) h
 
 -- ---- of 1 to 5 at most one: a call can name but one, or it converts a float
 abbrev named : Grounds → ℕ
@@ -210,8 +206,8 @@ never_bad room n h = differ ((exactly ((R.Overflow, ltb most n) ∷ (R.NoRoom, l
 
 pub unchanged : Unchanged
 unfolding code_of left_in
-unchanged (C.Refused r) before h = refl
-unchanged (C.Words low high) before h = go (little_endian 8 low ++ little_endian 8 high ++ drop 16 before) (ltb (length before) 16) h
+unchanged (Err r) before h = refl
+unchanged (Ok w) before h = go (little_endian 8 w.low ++ little_endian 8 w.high ++ drop 16 before) (ltb (length before) 16) h
   where
     go : (z : List ℕ) (b : Bool) → (◌≡◌ {A = ℕ} (cond b 9 0) 0 → ⊥) → cond b before z ≡ before
     go z true h = refl
@@ -230,7 +226,7 @@ table room i j a b ss ns x o s t f =
     also ruled (exact_row room i) (lit≤ tt)
     also ruled (unit_row room i j) (lit≤ tt)
     also ruled (one (λ z. code_of (word_reply z) room) a _ _ refl (λ _. done)) (lit≤ tt)
-    also ruled (one (λ z. code_of (part_reply z) room) a _ _ refl (λ _. done)) (lit≤ tt)
+    also ruled (one (λ z. code_of (word_reply z) room) a _ _ refl (λ _. done)) (lit≤ tt)
     also ruled (one (λ z. code_of (wide_reply z) room) a _ _ refl (λ _. done)) (lit≤ tt)
     also ruled (one (λ z. code_of (flag_reply z) room) a _ _ refl (λ _. done)) (lit≤ tt)
     also ruled (two (λ z. code_of (order_reply z) room) a b _ _ refl (λ _. done)) (lit≤ tt)

@@ -1,18 +1,17 @@
 -- Document 01's refusal table: the order of checks, and every definition that a contract cites beside what the table says of it. Assumes nothing.
-use Rattle.std.specs.Prelude.{ℕ, suc, ◌+◌, ◌-◌, ◌*◌, ◌%◌, ◌^◌, ◌≤◌, ◌<◌, min, ◌≡◌, ◌↔◌, Bool, true, false, cond, not, ◌&&◌, ◌||◌, List, [], ◌∷◌, ◌++◌, length, take, drop, get_or, T, leb, ltb, eqb}
-use Rattle.laws.specs.Names.{pos, Float, fin, binary64, lt, le, is_nan, fits, mul, div, number_of, Refusal, Negative, OverflowOrNan, Overflow, Underflow, ZeroDivisor, BadRow, BadRange, BadOptions, NoRoom, BadDuration, BadUnit, Duration, Is, N, valid, most, of_nanos, exact, decoded}
+use Rattle.std.specs.Prelude.{ℕ, suc, ◌+◌, ◌-◌, ◌*◌, ◌%◌, ◌^◌, ◌≤◌, ◌<◌, min, ◌≡◌, ◌↔◌, Bool, true, false, cond, not, ◌&&◌, ◌||◌, List, [], ◌∷◌, ◌++◌, length, take, drop, get_or, T, leb, ltb, eqb, Option, None, Some, Result, Ok, Err}
+use Rattle.laws.specs.Names.{pos, Float, fin, binary64, lt, le, is_nan, fits, mul, div, number_of, Refusal, Negative, OverflowOrNan, Overflow, Underflow, ZeroDivisor, BadRow, BadRange, BadOptions, NoRoom, BadDuration, BadUnit, Duration, N, valid, most, of_nanos, exact, decoded}
 use Rattle.wide.specs.Wide.{answer, difference, division}
 use Rattle.door.specs.Door as Door
 use Rattle.duration.specs.Units.{units, from_unit_number}
 use Rattle.duration.specs.Parts.{whole_secs, subsec, count, is_zero, compared}
 use Rattle.arithmetic.specs.Arithmetic.{added, subtracted, apart, times, shared, floor_of, ceil_of, saturated}
 use Rattle.sums.specs.Sum.{rows, total, sum_of, bytes_sum}
-use Rattle.seconds.specs.Out.{seconds_as, f64_if, f32_if}
+use Rattle.seconds.specs.Out.{seconds_as, float_if}
 use Rattle.seconds.specs.From.{from_seconds, times_float, over_float}
-use Rattle.text.specs.declared.{Count.Count, Options.Options, TextAnswer.TextAnswer}
+use Rattle.text.specs.declared.Options.{Options}
 use Rattle.text.specs.Answer.{text, answer_of}
-use Rattle.reply.specs.declared.Reply.{Reply}
-use Rattle.reply.specs.Reply.{code_of, left_in, duration_reply, sum_reply, wide_reply, word_reply, part_reply, flag_reply, order_reply, f64_reply, f32_reply}
+use Rattle.reply.specs.Reply.{Reply, code_of, left_in, duration_reply, wide_reply, word_reply, flag_reply, order_reply, f64_reply, f32_reply}
 
 -- what 01's column "given exactly when" says of one call: the refusals that it can meet, each with whether its condition holds
 abbrev pub Grounds : Type 0
@@ -76,17 +75,17 @@ listed odd ss ns first end =
     (BadRange, odd || not (eqb (length ss) (length ns)) || ltb end first || ltb (length ss) end) ∷ (BadRow, any bad range) ∷ (Overflow, ltb most (total range)) ∷ []
 
 -- a count of fraction digits or of characters above 255
-abbrev pub above : Count → Bool
-above Count.Unset = false
-above (Count.Set n) = ltb 255 n
+abbrev pub above : Option ℕ → Bool
+above None = false
+above (Some n) = ltb 255 n
 
 abbrev pub bad_options : Options → Bool
 bad_options o = ltb 1 o.plus || ltb 3 o.alignment || ltb o.fill 0x20 || ltb 0x7E o.fill || above o.precision || above o.width
 
 -- a text's number: its refusal's, or 0
-abbrev pub text_code : TextAnswer → ℕ
-text_code (TextAnswer.Is k) = 0
-text_code (TextAnswer.Refused r) = number_of r
+abbrev pub text_code : Result ℕ Refusal → ℕ
+text_code (Ok k) = 0
+text_code (Err r) = number_of r
 
 -- a call with 16 bytes to write into a buffer of so many
 abbrev pub call : ℕ → Reply → Grounds → ℕ × Grounds
@@ -101,7 +100,7 @@ table room i j a b ss ns x o =
     ∷ call room (duration_reply (exact i)) ((Overflow, ltb most i) ∷ [])
     ∷ call room (duration_reply (from_unit_number i j)) ((BadUnit, ltb 7 j) ∷ (Overflow, ltb most (i * get_or units j 0)) ∷ [])
     ∷ call room (word_reply (whole_secs a)) ((BadDuration, bad a) ∷ [])
-    ∷ call room (part_reply (subsec i a)) ((BadDuration, bad a) ∷ [])
+    ∷ call room (word_reply (subsec i a)) ((BadDuration, bad a) ∷ [])
     ∷ call room (wide_reply (count i a)) ((BadDuration, bad a) ∷ [])
     ∷ call room (flag_reply (is_zero a)) ((BadDuration, bad a) ∷ [])
     ∷ call room (order_reply (compared a b)) ((BadDuration, bad a || bad b) ∷ [])
@@ -115,12 +114,12 @@ table room i j a b ss ns x o =
     ∷ call room (duration_reply (saturated (added a b))) ((BadDuration, bad a || bad b) ∷ [])
     ∷ call room (duration_reply (saturated (subtracted a b))) ((BadDuration, bad a || bad b) ∷ [])
     ∷ call room (duration_reply (saturated (times a i))) ((BadDuration, bad a) ∷ [])
-    ∷ call room (sum_reply (sum_of ss ns i j)) (listed false ss ns i j)
-    ∷ call room (sum_reply (bytes_sum ss ns i j)) (listed (not (eqb (length ss % 8) 0) || not (eqb (length ns % 4) 0)) (decoded 8 ss) (decoded 4 ns) i j)
-    ∷ call room (f64_reply (f64_if (valid a) x)) ((BadDuration, bad a) ∷ [])
-    ∷ call room (f32_reply (f32_if (valid a) x)) ((BadDuration, bad a) ∷ [])
-    ∷ call room (f64_reply (f64_if (valid a && valid b) x)) ((BadDuration, bad a || bad b) ∷ [])
-    ∷ call room (f32_reply (f32_if (valid a && valid b) x)) ((BadDuration, bad a || bad b) ∷ [])
+    ∷ call room (duration_reply (sum_of ss ns i j)) (listed false ss ns i j)
+    ∷ call room (duration_reply (bytes_sum ss ns i j)) (listed (not (eqb (length ss % 8) 0) || not (eqb (length ns % 4) 0)) (decoded 8 ss) (decoded 4 ns) i j)
+    ∷ call room (f64_reply (float_if (valid a) x)) ((BadDuration, bad a) ∷ [])
+    ∷ call room (f32_reply (float_if (valid a) x)) ((BadDuration, bad a) ∷ [])
+    ∷ call room (f64_reply (float_if (valid a && valid b) x)) ((BadDuration, bad a || bad b) ∷ [])
+    ∷ call room (f32_reply (float_if (valid a && valid b) x)) ((BadDuration, bad a || bad b) ∷ [])
     ∷ call room (duration_reply (from_seconds x)) (converted x)
     ∷ call room (duration_reply (times_float a x)) ((BadDuration, bad a) ∷ converted (mul binary64 x (seconds_as binary64 a)))
     ∷ call room (duration_reply (over_float a x)) ((BadDuration, bad a) ∷ converted (div binary64 (seconds_as binary64 a) x))
@@ -138,7 +137,7 @@ NeverBad = (room n : ℕ) → code_of (duration_reply (exact n)) room ≡ number
 -- a saturating operation answers MAX in place of more, and ZERO in place of less, where a difference of natural numbers stops
 abbrev pub Saturates : Type 0
 Saturates = (a b : Duration) (k : ℕ) → a.secs < 2 ^ 64 → bad a || bad b ≡ false
-    → (saturated (added a b) ≡ Is (of_nanos (min (N a + N b) most))) × (saturated (subtracted a b) ≡ Is (of_nanos (N a - N b))) × (saturated (times a k) ≡ Is (of_nanos (min (N a * k) most)))
+    → (saturated (added a b) ≡ Ok (of_nanos (min (N a + N b) most))) × (saturated (subtracted a b) ≡ Ok (of_nanos (N a - N b))) × (saturated (times a k) ≡ Ok (of_nanos (min (N a * k) most)))
 
 -- a refused call changes no byte
 abbrev pub Unchanged : Type 0

@@ -11,14 +11,13 @@ use lib.ListN.{length}
 use mir.Syntax.{w64}
 use mir.Val.{SFits, of_z, to_z}
 use mir.Facts.{to_z-of_z, to_z_pos}
+use Rattle.std.specs.Prelude.{Result, Ok, Err}
 use Rattle.refusal.specs.Numbers.{number_of}
 use Rattle.refusal.specs.declared.Refusal.{Refusal}
 use Rattle.refusal.specs.declared.Refusal.TheVariants.{BadOptions, NoRoom, BadDuration}
 use Rattle.duration.specs.declared.Duration.{Duration}
 use Rattle.duration.specs.Meaning.{N, valid, most}
 use Rattle.text.specs.declared.Options.{Options}
-use Rattle.text.specs.declared.TextAnswer.{TextAnswer}
-use Rattle.text.specs.declared.TextAnswer.TheVariants.{Is, Refused}
 use Rattle.text.specs.Options.{limit, within, accepts}
 use Rattle.text.specs.Text.{text}
 use Rattle.text.specs.Answer.{fitted, answer_of}
@@ -36,7 +35,7 @@ negated n h = ap (λ (z : ℤ). pos 0 -ℤ z) (to_z_pos w64 h) ∙ +ℤ_idl (neg
 refusal_fits : {n : ℕ} → n < 2 ^ 63 → SFits w64 (pos 0 -ℤ to_z w64 n)
 refusal_fits {n} h = rw (negated n h) (negated_fits n h)
 
-pub sent_refusal : {a : TextAnswer} {f : Refusal} {n : ℕ} → a ≡ Refused f → n ≡ number_of f → n < 2 ^ 63 → to_z w64 (of_z w64 (pos 0 -ℤ to_z w64 n)) ≡ signed_of a
+pub sent_refusal : {a : Result ℕ Refusal} {f : Refusal} {n : ℕ} → a ≡ Err f → n ≡ number_of f → n < 2 ^ 63 → to_z w64 (of_z w64 (pos 0 -ℤ to_z w64 n)) ≡ signed_of a
 sent_refusal {a} {f} {n} e g h = to_z-of_z (refusal_fits h) ∙ negated n h ∙ ap (λ (k : ℕ). neg_ℤ (pos k)) g ∙ ap signed_of (sym e)
 
 -- ---- every answer's length is a signed word
@@ -44,7 +43,7 @@ pub short : (d : Duration) (o : Options) (room : ℕ) → d.secs < 2 ^ 64 → Sh
 unfolding answer_of fitted valid
 short d o room h = go (valid d) (accepts o) (leb (length (text (N d) o)) room) refl refl
   where
-    go : (a b c : Bool) → valid d ≡ a → accepts o ≡ b → Short (cond a (cond b (cond c (Is (length (text (N d) o))) (Refused NoRoom)) (Refused BadOptions)) (Refused BadDuration))
+    go : (a b c : Bool) → valid d ≡ a → accepts o ≡ b → Short (cond a (cond b (cond c (Ok (length (text (N d) o))) (Err NoRoom)) (Err BadOptions)) (Err BadDuration))
     go true true true e f = let top : N d ≤ most = omega (arith, ltb-true d.nanos (10 ^ 9) e) in lt_of_le_of_lt (longest (N d) o top f) (lit< tt)
     go true true false e f = tt
     go true false c e f = tt

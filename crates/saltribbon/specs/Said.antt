@@ -1,8 +1,8 @@
 -- What the text's C function takes, returns and leaves in the lent buffer. Assumes nothing.
 use Rattle.std.specs.Int.Signed.{le_z}
-use Rattle.std.specs.Prelude.{ℕ, zero, suc, ◌-◌, ◌^◌, ◌<◌, ◌≡◌, Bool, ◌&&◌, List, length}
-use Rattle.laws.specs.Names.{ℤ, pos, negsuc, neg_ℤ, number_of, Duration, N}
-use Rattle.text.specs.declared.{Count.Count, Options.Options, TextAnswer.TextAnswer}
+use Rattle.std.specs.Prelude.{ℕ, zero, suc, ◌-◌, ◌^◌, ◌<◌, ◌≡◌, Bool, ◌&&◌, List, length, Option, None, Some, Result, Ok, Err}
+use Rattle.laws.specs.Names.{ℤ, pos, negsuc, neg_ℤ, Refusal, number_of, Duration, N}
+use Rattle.text.specs.declared.Options.{Options}
 use Rattle.text.specs.Answer.{limit, accepts, text, answer_of, left_in}
 
 -- an option's number: what is below zero is the largest word, which no limit admits
@@ -11,23 +11,23 @@ option_of (pos n) = n
 option_of (negsuc n) = 2 ^ 64 - 1
 
 -- a number of digits or of characters: -1 is none
-abbrev pub count_of : ℤ → Count
-count_of (pos n) = Count.Set n
-count_of (negsuc zero) = Count.Unset
-count_of (negsuc (suc n)) = Count.Set (2 ^ 64 - 1)
+abbrev pub count_of : ℤ → Option ℕ
+count_of (pos n) = Some n
+count_of (negsuc zero) = None
+count_of (negsuc (suc n)) = Some (2 ^ 64 - 1)
 
 abbrev pub options_of : ℤ → ℤ → ℤ → ℤ → ℤ → Options
 options_of plus precision width align fill = record { plus = option_of plus; precision = count_of precision; width = count_of width; alignment = option_of align; fill = option_of fill }
 
 -- the length, or the refusal's number negated
-abbrev pub signed_of : TextAnswer → ℤ
-signed_of (TextAnswer.Is k) = pos k
-signed_of (TextAnswer.Refused f) = neg_ℤ (pos (number_of f))
+abbrev pub signed_of : Result ℕ Refusal → ℤ
+signed_of (Ok k) = pos k
+signed_of (Err f) = neg_ℤ (pos (number_of f))
 
 -- a length that is a signed word
-abbrev pub Short : TextAnswer → Type 0
-Short (TextAnswer.Is k) = k < 2 ^ 63
-Short (TextAnswer.Refused f) = Unit {0}
+abbrev pub Short : Result ℕ Refusal → Type 0
+Short (Ok k) = k < 2 ^ 63
+Short (Err f) = Unit {0}
 
 -- what a call that returns r does
 pub record Said (before after : List ℕ) (d : Duration) (o : Options) (r : ℤ) : Type 0 where

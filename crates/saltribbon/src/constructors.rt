@@ -7,22 +7,22 @@ ghost use Rattle.duration.specs.Meaning.{exact, most};
 ghost use Rattle.duration.specs.Units.{from_unit_number};
 ghost use Rattle.reply.specs.Reply.{Replied, duration_reply};
 
-use duration::{Answer, constructors};
-use reply::{of_duration, send};
+use duration::constructors;
+use reply::{Words, send};
 use wide::Wide;
 
 #[unsafe(no_mangle)]
 pub extern "C" fn salt_new(secs: u64, nanos: u32, out: &mut [u8]) -> u32
     ensures { Replied out.old out.new (duration_reply (exact (secs * 10 ^ 9 + nanos))) result }
 {
-    send(of_duration(constructors::new(secs, nanos)), out)
+    send(constructors::new(secs, nanos).map(Words::from), out)
 }
 
 #[unsafe(no_mangle)]
 pub extern "C" fn salt_from_unit(count: u64, unit: u32, out: &mut [u8]) -> u32
     ensures { Replied out.old out.new (duration_reply (from_unit_number count unit)) result }
 {
-    send(of_duration(constructors::from_unit(count, unit)), out)
+    send(constructors::from_unit(count, unit).map(Words::from), out)
 }
 
 #[unsafe(no_mangle)]
@@ -30,7 +30,7 @@ pub extern "C" fn salt_from_nanos_u128(low: u64, high: u64, out: &mut [u8]) -> u
     ensures { Replied out.old out.new (duration_reply (exact (wide (record { hi = high; lo = low })))) result }
 {
     send(
-        of_duration(constructors::from_nanos_u128(Wide { hi: high, lo: low })),
+        constructors::from_nanos_u128(Wide { hi: high, lo: low }).map(Words::from),
         out,
     )
 }
@@ -39,40 +39,40 @@ pub extern "C" fn salt_from_nanos_u128(low: u64, high: u64, out: &mut [u8]) -> u
 pub extern "C" fn salt_second(out: &mut [u8]) -> u32
     ensures { Replied out.old out.new (duration_reply (exact (10 ^ 9))) result }
 {
-    send(of_duration(Answer::Is(duration::SECOND)), out)
+    send(Ok(Words::from(duration::SECOND)), out)
 }
 
 #[unsafe(no_mangle)]
 pub extern "C" fn salt_millisecond(out: &mut [u8]) -> u32
     ensures { Replied out.old out.new (duration_reply (exact (10 ^ 6))) result }
 {
-    send(of_duration(Answer::Is(duration::MILLISECOND)), out)
+    send(Ok(Words::from(duration::MILLISECOND)), out)
 }
 
 #[unsafe(no_mangle)]
 pub extern "C" fn salt_microsecond(out: &mut [u8]) -> u32
     ensures { Replied out.old out.new (duration_reply (exact (10 ^ 3))) result }
 {
-    send(of_duration(Answer::Is(duration::MICROSECOND)), out)
+    send(Ok(Words::from(duration::MICROSECOND)), out)
 }
 
 #[unsafe(no_mangle)]
 pub extern "C" fn salt_nanosecond(out: &mut [u8]) -> u32
     ensures { Replied out.old out.new (duration_reply (exact 1)) result }
 {
-    send(of_duration(Answer::Is(duration::NANOSECOND)), out)
+    send(Ok(Words::from(duration::NANOSECOND)), out)
 }
 
 #[unsafe(no_mangle)]
 pub extern "C" fn salt_zero(out: &mut [u8]) -> u32
     ensures { Replied out.old out.new (duration_reply (exact 0)) result }
 {
-    send(of_duration(Answer::Is(duration::ZERO)), out)
+    send(Ok(Words::from(duration::ZERO)), out)
 }
 
 #[unsafe(no_mangle)]
 pub extern "C" fn salt_max(out: &mut [u8]) -> u32
     ensures { Replied out.old out.new (duration_reply (exact most)) result }
 {
-    send(of_duration(Answer::Is(duration::MAX)), out)
+    send(Ok(Words::from(duration::MAX)), out)
 }

@@ -2,39 +2,51 @@
 ghost use Rattle.std.specs.Prelude.{◌&&◌};
 ghost use Rattle.std.specs.Float.{binary32, binary64};
 ghost use Rattle.duration.specs.Meaning.{valid};
-ghost use Rattle.seconds.specs.Out.{seconds_as, millis_as, quotient_as, f32_if, f64_if};
+ghost use Rattle.seconds.specs.Out.{seconds_as, millis_as, quotient_as, float_if};
 ghost use Rattle.reply.specs.Reply.{Replied, f32_reply, f64_reply};
 
 use duration::Duration;
-use reply::{of_f32, of_f64, send};
+use reply::{Words, send};
 use seconds::out;
 
 #[unsafe(no_mangle)]
 pub extern "C" fn salt_as_secs_f64(secs: u64, nanos: u32, out: &mut [u8]) -> u32
-    ensures { Replied out.old out.new (f64_reply (f64_if (valid (record { secs = secs; nanos = nanos })) (seconds_as binary64 (record { secs = secs; nanos = nanos })))) result }
+    ensures { Replied out.old out.new (f64_reply (float_if (valid (record { secs = secs; nanos = nanos })) (seconds_as binary64 (record { secs = secs; nanos = nanos })))) result }
 {
-    send(of_f64(out::as_secs_f64(Duration { secs, nanos })), out)
+    send(
+        out::as_secs_f64(Duration { secs, nanos }).map(Words::from),
+        out,
+    )
 }
 
 #[unsafe(no_mangle)]
 pub extern "C" fn salt_as_secs_f32(secs: u64, nanos: u32, out: &mut [u8]) -> u32
-    ensures { Replied out.old out.new (f32_reply (f32_if (valid (record { secs = secs; nanos = nanos })) (seconds_as binary32 (record { secs = secs; nanos = nanos })))) result }
+    ensures { Replied out.old out.new (f32_reply (float_if (valid (record { secs = secs; nanos = nanos })) (seconds_as binary32 (record { secs = secs; nanos = nanos })))) result }
 {
-    send(of_f32(out::as_secs_f32(Duration { secs, nanos })), out)
+    send(
+        out::as_secs_f32(Duration { secs, nanos }).map(Words::from),
+        out,
+    )
 }
 
 #[unsafe(no_mangle)]
 pub extern "C" fn salt_as_millis_f64(secs: u64, nanos: u32, out: &mut [u8]) -> u32
-    ensures { Replied out.old out.new (f64_reply (f64_if (valid (record { secs = secs; nanos = nanos })) (millis_as binary64 (record { secs = secs; nanos = nanos })))) result }
+    ensures { Replied out.old out.new (f64_reply (float_if (valid (record { secs = secs; nanos = nanos })) (millis_as binary64 (record { secs = secs; nanos = nanos })))) result }
 {
-    send(of_f64(out::as_millis_f64(Duration { secs, nanos })), out)
+    send(
+        out::as_millis_f64(Duration { secs, nanos }).map(Words::from),
+        out,
+    )
 }
 
 #[unsafe(no_mangle)]
 pub extern "C" fn salt_as_millis_f32(secs: u64, nanos: u32, out: &mut [u8]) -> u32
-    ensures { Replied out.old out.new (f32_reply (f32_if (valid (record { secs = secs; nanos = nanos })) (millis_as binary32 (record { secs = secs; nanos = nanos })))) result }
+    ensures { Replied out.old out.new (f32_reply (float_if (valid (record { secs = secs; nanos = nanos })) (millis_as binary32 (record { secs = secs; nanos = nanos })))) result }
 {
-    send(of_f32(out::as_millis_f32(Duration { secs, nanos })), out)
+    send(
+        out::as_millis_f32(Duration { secs, nanos }).map(Words::from),
+        out,
+    )
 }
 
 #[unsafe(no_mangle)]
@@ -45,14 +57,14 @@ pub extern "C" fn salt_div_duration_f64(
     nanos2: u32,
     out: &mut [u8],
 ) -> u32
-    ensures { Replied out.old out.new (f64_reply (f64_if (valid (record { secs = secs; nanos = nanos }) && valid (record { secs = secs2; nanos = nanos2 })) (quotient_as binary64 (record { secs = secs; nanos = nanos }) (record { secs = secs2; nanos = nanos2 })))) result }
+    ensures { Replied out.old out.new (f64_reply (float_if (valid (record { secs = secs; nanos = nanos }) && valid (record { secs = secs2; nanos = nanos2 })) (quotient_as binary64 (record { secs = secs; nanos = nanos }) (record { secs = secs2; nanos = nanos2 })))) result }
 {
     let a = Duration { secs, nanos };
     let b = Duration {
         secs: secs2,
         nanos: nanos2,
     };
-    send(of_f64(out::div_duration_f64(a, b)), out)
+    send(out::div_duration_f64(a, b).map(Words::from), out)
 }
 
 #[unsafe(no_mangle)]
@@ -63,12 +75,12 @@ pub extern "C" fn salt_div_duration_f32(
     nanos2: u32,
     out: &mut [u8],
 ) -> u32
-    ensures { Replied out.old out.new (f32_reply (f32_if (valid (record { secs = secs; nanos = nanos }) && valid (record { secs = secs2; nanos = nanos2 })) (quotient_as binary32 (record { secs = secs; nanos = nanos }) (record { secs = secs2; nanos = nanos2 })))) result }
+    ensures { Replied out.old out.new (f32_reply (float_if (valid (record { secs = secs; nanos = nanos }) && valid (record { secs = secs2; nanos = nanos2 })) (quotient_as binary32 (record { secs = secs; nanos = nanos }) (record { secs = secs2; nanos = nanos2 })))) result }
 {
     let a = Duration { secs, nanos };
     let b = Duration {
         secs: secs2,
         nanos: nanos2,
     };
-    send(of_f32(out::div_duration_f32(a, b)), out)
+    send(out::div_duration_f32(a, b).map(Words::from), out)
 }

@@ -3,7 +3,7 @@ ghost use Rattle.arithmetic.specs.Arithmetic.{added, subtracted, apart, times, s
 ghost use Rattle.reply.specs.Reply.{Replied, duration_reply, wide_reply};
 
 use duration::Duration;
-use reply::{of_duration, of_wide, send};
+use reply::{Words, send};
 
 #[unsafe(no_mangle)]
 pub extern "C" fn salt_checked_add(
@@ -20,7 +20,7 @@ pub extern "C" fn salt_checked_add(
         secs: secs2,
         nanos: nanos2,
     };
-    send(of_duration(arithmetic::checked_add(a, b)), out)
+    send(arithmetic::checked_add(a, b).map(Words::from), out)
 }
 
 #[unsafe(no_mangle)]
@@ -38,7 +38,7 @@ pub extern "C" fn salt_saturating_add(
         secs: secs2,
         nanos: nanos2,
     };
-    send(of_duration(arithmetic::saturating_add(a, b)), out)
+    send(arithmetic::saturating_add(a, b).map(Words::from), out)
 }
 
 #[unsafe(no_mangle)]
@@ -56,7 +56,7 @@ pub extern "C" fn salt_checked_sub(
         secs: secs2,
         nanos: nanos2,
     };
-    send(of_duration(arithmetic::checked_sub(a, b)), out)
+    send(arithmetic::checked_sub(a, b).map(Words::from), out)
 }
 
 #[unsafe(no_mangle)]
@@ -74,7 +74,7 @@ pub extern "C" fn salt_saturating_sub(
         secs: secs2,
         nanos: nanos2,
     };
-    send(of_duration(arithmetic::saturating_sub(a, b)), out)
+    send(arithmetic::saturating_sub(a, b).map(Words::from), out)
 }
 
 #[unsafe(no_mangle)]
@@ -92,7 +92,7 @@ pub extern "C" fn salt_abs_diff(
         secs: secs2,
         nanos: nanos2,
     };
-    send(of_duration(arithmetic::abs_diff(a, b)), out)
+    send(arithmetic::abs_diff(a, b).map(Words::from), out)
 }
 
 #[unsafe(no_mangle)]
@@ -100,7 +100,7 @@ pub extern "C" fn salt_checked_mul(secs: u64, nanos: u32, k: u32, out: &mut [u8]
     ensures { Replied out.old out.new (duration_reply (times (record { secs = secs; nanos = nanos }) k)) result }
 {
     send(
-        of_duration(arithmetic::checked_mul(Duration { secs, nanos }, k)),
+        arithmetic::checked_mul(Duration { secs, nanos }, k).map(Words::from),
         out,
     )
 }
@@ -110,7 +110,7 @@ pub extern "C" fn salt_saturating_mul(secs: u64, nanos: u32, k: u32, out: &mut [
     ensures { Replied out.old out.new (duration_reply (saturated (times (record { secs = secs; nanos = nanos }) k))) result }
 {
     send(
-        of_duration(arithmetic::saturating_mul(Duration { secs, nanos }, k)),
+        arithmetic::saturating_mul(Duration { secs, nanos }, k).map(Words::from),
         out,
     )
 }
@@ -120,7 +120,7 @@ pub extern "C" fn salt_checked_div(secs: u64, nanos: u32, k: u32, out: &mut [u8]
     ensures { Replied out.old out.new (duration_reply (shared (record { secs = secs; nanos = nanos }) k)) result }
 {
     send(
-        of_duration(arithmetic::checked_div(Duration { secs, nanos }, k)),
+        arithmetic::checked_div(Duration { secs, nanos }, k).map(Words::from),
         out,
     )
 }
@@ -140,7 +140,7 @@ pub extern "C" fn salt_div_duration_floor(
         secs: secs2,
         nanos: nanos2,
     };
-    send(of_wide(arithmetic::div_duration_floor(a, b)), out)
+    send(arithmetic::div_duration_floor(a, b).map(Words::from), out)
 }
 
 #[unsafe(no_mangle)]
@@ -158,5 +158,5 @@ pub extern "C" fn salt_div_duration_ceil(
         secs: secs2,
         nanos: nanos2,
     };
-    send(of_wide(arithmetic::div_duration_ceil(a, b)), out)
+    send(arithmetic::div_duration_ceil(a, b).map(Words::from), out)
 }

@@ -3,36 +3,34 @@ ghost use Rattle.std.specs.Prelude.{◌≡◌};
 ghost use Rattle.saltribbon.specs.Said.{option_of, count_of, options_of, Short, signed_of, Said};
 
 use duration::Duration;
-use text::{Count, Options, TextAnswer};
+use refusal::Refusal;
+use text::Options;
 
 // An option's number. One below zero goes over as the largest word, which no limit admits.
 fn option(n: i64) -> u64
     ensures { result ≡ option_of n }
 {
-    if n < 0 {
-        return u64::MAX;
-    }
-    n as u64
+    u64::try_from(n).unwrap_or(u64::MAX)
 }
 
 // A number of digits or of characters, of which -1 is none.
-fn count(n: i64) -> Count
+fn count(n: i64) -> Option<u64>
     ensures { result ≡ count_of n }
 {
-    if n == -1 {
-        return Count::Unset;
+    match n {
+        -1 => None,
+        _ => Some(option(n)),
     }
-    Count::Set(option(n))
 }
 
 // The length, or the refusal's number negated.
-fn signed(a: TextAnswer) -> i64
+fn signed(a: Result<usize, Refusal>) -> i64
     requires { Short a }
     ensures { result ≡ signed_of a }
 {
     match a {
-        TextAnswer::Is(k) => k as i64,
-        TextAnswer::Refused(f) => -(refusal::number(f) as i64),
+        Ok(k) => k as i64,
+        Err(f) => -(refusal::number(f) as i64),
     }
 }
 

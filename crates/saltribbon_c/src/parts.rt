@@ -1,7 +1,7 @@
 // The exports that read a duration.
 ghost use Rattle.std.specs.Prelude.{◌^◌};
 ghost use Rattle.duration.specs.Parts.{whole_secs, subsec, count, is_zero, compared};
-ghost use Rattle.reply.specs.Reply.{Replied, wide_reply, word_reply, part_reply, flag_reply, order_reply};
+ghost use Rattle.reply.specs.Reply.{Replied, wide_reply, word_reply, flag_reply, order_reply};
 
 #[unsafe(no_mangle)]
 pub extern "C" fn salt_as_secs(secs: u64, nanos: u32, out: &mut [u8]) -> u32
@@ -12,21 +12,21 @@ pub extern "C" fn salt_as_secs(secs: u64, nanos: u32, out: &mut [u8]) -> u32
 
 #[unsafe(no_mangle)]
 pub extern "C" fn salt_subsec_millis(secs: u64, nanos: u32, out: &mut [u8]) -> u32
-    ensures { Replied out.old out.new (part_reply (subsec (10 ^ 6) (record { secs = secs; nanos = nanos }))) result }
+    ensures { Replied out.old out.new (word_reply (subsec (10 ^ 6) (record { secs = secs; nanos = nanos }))) result }
 {
     saltribbon::parts::salt_subsec_millis(secs, nanos, out)
 }
 
 #[unsafe(no_mangle)]
 pub extern "C" fn salt_subsec_micros(secs: u64, nanos: u32, out: &mut [u8]) -> u32
-    ensures { Replied out.old out.new (part_reply (subsec (10 ^ 3) (record { secs = secs; nanos = nanos }))) result }
+    ensures { Replied out.old out.new (word_reply (subsec (10 ^ 3) (record { secs = secs; nanos = nanos }))) result }
 {
     saltribbon::parts::salt_subsec_micros(secs, nanos, out)
 }
 
 #[unsafe(no_mangle)]
 pub extern "C" fn salt_subsec_nanos(secs: u64, nanos: u32, out: &mut [u8]) -> u32
-    ensures { Replied out.old out.new (part_reply (subsec 1 (record { secs = secs; nanos = nanos }))) result }
+    ensures { Replied out.old out.new (word_reply (subsec 1 (record { secs = secs; nanos = nanos }))) result }
 {
     saltribbon::parts::salt_subsec_nanos(secs, nanos, out)
 }

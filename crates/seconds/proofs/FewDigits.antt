@@ -1,17 +1,16 @@
 -- The way of `short`: 24 digits over a power of two, by one shift and one product, with never a second to carry. Assumes nothing.
-use Rattle.std.proofs.Common.{◌≡◌, ℕ, ◌+◌, ◌-◌, ◌*◌, ◌/◌, ◌%◌, ◌^◌, ◌<◌, ◌≤◌, sym, refl, ap, ◌∙◌, subst, inl, inr, lt_of_le_of_lt, add-zero, mod-lt, mul-one, arith, lit<, pow_pos, pow_mono, shr-shr}
+use Rattle.std.proofs.Common.{Ok, ◌≡◌, ℕ, ◌+◌, ◌-◌, ◌*◌, ◌/◌, ◌%◌, ◌^◌, ◌<◌, ◌≤◌, sym, refl, ap, ◌∙◌, subst, inl, inr, lt_of_le_of_lt, add-zero, mod-lt, mul-one, arith, lit<, pow_pos, pow_mono, shl_exact, shr-shr}
+use Rattle.std.proofs.lemmas.Nat.{shl-shr, shr_le}
 use native.Mathlib.Nat.{mod-le}
-use lib.Pow.{shl-shr, shr_le}
 use lib.Ieee.Nearest.{closest}
 use Rattle.laws.proofs.Closest.{le_or_lt, by_sum, closest_le}
-use Rattle.duration.specs.declared.Answer.TheVariants.{Is}
 use Rattle.duration.proofs.Exact.{exact_is}
 use Rattle.seconds.specs.From.{of_fraction}
 use Rattle.seconds.proofs.Rounding.{fraction_is}
 use Rattle.seconds.proofs.Fraction.{split_at}
 
 -- as the machine has it: the nanoseconds of p / 2 ^ 34
-abbrev pub rounded : ℕ → ℕ
+abbrev rounded : ℕ → ℕ
 rounded p = (p + 0x1_ffff_ffff + p / 0x4_0000_0000 % 2) / 0x4_0000_0000
 
 rounded_is : (p : ℕ) → rounded p ≡ closest p (2 ^ 34)
@@ -54,20 +53,25 @@ no_carry x k h l = closest_le (x * 10 ^ 9) (2 ^ k) 999999999 (pow_pos k) (elim (
         from : (k : ℕ) → 24 < k → 25 ≤ k
         from k e = omega arith
 
-pub short_is : (m k : ℕ) {v : ℕ} → m < 2 ^ 24 → k ≤ 34 → v ≡ m * 2 ^ (34 - k) → Is (record { secs = v / 2 ^ 34; nanos = rounded (v % 2 ^ 34 * 10 ^ 9) }) ≡ of_fraction m (2 ^ k)
-short_is m k {v} M h e = exact_is secs-lt nanos-lt (ap (λ (z : ℕ). z * 10 ^ 9 + rounded (v % 2 ^ 34 * 10 ^ 9)) secs ∙ ap (λ (z : ℕ). m / 2 ^ k * 10 ^ 9 + z) nanos) ∙ sym (split_at m k (omega arith))
-  where
-    secs : v / 2 ^ 34 ≡ m / 2 ^ k
-    secs = ap (λ (z : ℕ). z / 2 ^ 34) e ∙ secs_are m k h
+-- v is the machine's shift
+module _ (m k : ℕ) (M : m < 2 ^ 24) (K : k ≤ 34) where
+  abbrev v : ℕ
+  v = m * 2 ^ (34 - k) % 2 ^ 64
 
-    nanos : rounded (v % 2 ^ 34 * 10 ^ 9) ≡ closest (m % 2 ^ k * 10 ^ 9) (2 ^ k)
-    nanos = ap (λ (z : ℕ). rounded (z % 2 ^ 34 * 10 ^ 9)) e ∙ nanos_are m k h
+  v-is : v ≡ m * 2 ^ (34 - k)
+  v-is = shl_exact 24 (34 - k) 64 M (omega arith)
 
-    secs-lt : v / 2 ^ 34 < 2 ^ 64
-    secs-lt = rw secs (omega (arith, shr_le m k))
+  secs : v / 2 ^ 34 ≡ m / 2 ^ k
+  secs = ap (λ (z : ℕ). z / 2 ^ 34) v-is ∙ secs_are m k K
 
-    nanos-lt : rounded (v % 2 ^ 34 * 10 ^ 9) < 10 ^ 9
-    nanos-lt = rw nanos (few (closest (m % 2 ^ k * 10 ^ 9) (2 ^ k)) (no_carry (m % 2 ^ k) k (mod-lt m (pow_pos k)) (lt_of_le_of_lt (mod-le m (2 ^ k)) M)))
-      where
-        few : (c : ℕ) → c ≤ 999999999 → c < 10 ^ 9
-        few c h = omega arith
+  nanos : rounded (v % 2 ^ 34 * 10 ^ 9) ≡ closest (m % 2 ^ k * 10 ^ 9) (2 ^ k)
+  nanos = ap (λ (z : ℕ). rounded (z % 2 ^ 34 * 10 ^ 9)) v-is ∙ nanos_are m k K
+
+  secs-lt : v / 2 ^ 34 < 2 ^ 64
+  secs-lt = rw secs (omega (arith, shr_le m k))
+
+  nanos-lt : rounded (v % 2 ^ 34 * 10 ^ 9) < 10 ^ 9
+  nanos-lt = omega (arith, nanos, no_carry (m % 2 ^ k) k (mod-lt m (pow_pos k)) (lt_of_le_of_lt (mod-le m (2 ^ k)) M))
+
+  pub short_is : Ok (record { secs = v / 2 ^ 34; nanos = rounded (v % 2 ^ 34 * 10 ^ 9) }) ≡ of_fraction m (2 ^ k)
+  short_is = exact_is secs-lt nanos-lt (ap (λ (z : ℕ). z * 10 ^ 9 + rounded (v % 2 ^ 34 * 10 ^ 9)) secs ∙ ap (λ (z : ℕ). m / 2 ^ k * 10 ^ 9 + z) nanos) ∙ sym (split_at m k (omega arith))

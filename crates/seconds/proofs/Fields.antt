@@ -1,13 +1,13 @@
 -- What a float's bit pattern says of the duration, for both widths. Assumes nothing.
-use Rattle.std.proofs.Common.{◌≡◌, ℕ, zero, suc, ◌+◌, ◌-◌, ◌*◌, ◌/◌, ◌%◌, ◌^◌, ◌<◌, ◌≤◌, Bool, true, false, cond, not, ◌&&◌, ◌||◌, T, eqb, leb, pos, sym, refl, ap, ◌∙◌, subst, inl, inr, true≢false, le_trans, le-add_right, mul-le-mul_right, eq-zero-or-pos, one-mul, zero-mul, mul-one, arith, lit≤, eqb→eq, pow_pos, ltb-false, le-ltb, lt-ltb, eq-eqb, eqb-true}
+use Rattle.std.proofs.Common.{Ok, Err, ◌≡◌, ℕ, zero, suc, ◌+◌, ◌-◌, ◌*◌, ◌/◌, ◌%◌, ◌^◌, ◌<◌, ◌≤◌, Bool, true, false, cond, not, ◌&&◌, ◌||◌, T, eqb, leb, pos, sym, refl, ap, ◌∙◌, subst, inl, inr, true≢false, le_trans, le-add_right, mul-le-mul_right, eq-zero-or-pos, one-mul, zero-mul, mul-one, arith, lit≤, eqb→eq, pow_pos, ltb-false, le-ltb, lt-ltb, eq-eqb, eqb-true, bit_and, bit_or}
+use Rattle.std.proofs.lemmas.Nat.{and_mask}
 use lib.Pow.{field}
-use lib.Bits.{bit_and, bit_or, and_mask, mask_lt, or_shifted_r}
-use lib.Ieee.{Float, nan, inf, fin, Format, binary32, binary64, prec, low, hid, ones, top, up, down, odd, lt, le, eq, ne, below, level, is_nan, fits, of_fields, of_bits, to_bits}
+use lib.Bits.{mask_lt, or_shifted_r}
+use lib.Ieee.{Float, nan, inf, fin, Format, binary32, binary64, prec, low, hid, ones, top, up, down, odd, lt, le, eq, below, level, is_nan, fits, of_fields, of_bits, to_bits}
 use lib.Ieee.Fits.{down_pos}
 use lib.Ieee.Bits.{to_bits-lt, of_bits-to_bits}
 use lib.Ieee.Exact.{HasValue, odd_sign}
 use Rattle.refusal.specs.declared.Refusal.TheVariants.{Negative, OverflowOrNan}
-use Rattle.duration.specs.declared.Answer.TheVariants.{Is, Refused}
 use Rattle.seconds.specs.From.{of_fraction, of_size, from_seconds}
 use Rattle.seconds.proofs.Fraction.{over, fraction_same, scaled_up, scaled_down, under_half}
 
@@ -57,13 +57,6 @@ by_fields f x F n =
     let e : of_fields f (leb (top f) b) (b % top f / hid f) (b % hid f) ≡ x = sym (of_bits_is f b) ∙ of_bits-to_bits f x F in
     ap of_size (sym e) ∙ of_fields_is f (leb (top f) b) (b % top f / hid f) (b % hid f) (subst (λ (y : Float). T (not (is_nan y))) (sym e) n)
 
--- ---- the tests
-pub equals_itself : (x : Float) → ne x x ≡ false → T (not (is_nan x))
-unfolding ne is_nan
-equals_itself nan h = absurd (true≢false h)
-equals_itself (inf s) h = tt
-equals_itself (fin s m e) h = tt
-
 -- x, beside 0: y is the size of x's digits, z is 0
 and_left : (a b : Bool) → (a && b) ≡ true → a ≡ true
 and_left true b h = refl
@@ -96,14 +89,14 @@ is_number nan h = absurd (true≢false (sym h))
 is_number (inf s) h = tt
 is_number (fin s m e) h = tt
 
-pub nan_is : (x : Float) → le nought x ≡ false → lt x nought ≡ false → Refused OverflowOrNan ≡ from_seconds x
+pub nan_is : (x : Float) → le nought x ≡ false → lt x nought ≡ false → Err OverflowOrNan ≡ from_seconds x
 unfolding from_seconds le lt eq
 nan_is nan h k = refl
 nan_is (inf true) h k = absurd (true≢false k)
 nan_is (inf false) h k = absurd (true≢false h)
 nan_is (fin s m e) h k = absurd (neither s (m * up e * down (pos 0)) (0 * up (pos 0) * down e) (zero-mul (down e)) h k)
 
-pub below_is : (x : Float) → lt x (fin false 0 (pos 0)) ≡ true → Refused Negative ≡ from_seconds x
+pub below_is : (x : Float) → lt x (fin false 0 (pos 0)) ≡ true → Err Negative ≡ from_seconds x
 unfolding from_seconds
 below_is x h = rw h
 
@@ -127,10 +120,9 @@ module _ (f : Format) (w : ℕ) (x : Float) where
     pub number : T (not (is_nan x))
     pub bits-lt : to_bits f x < 2 * top f
     pub led-lt : led < hid f + hid f
-    pub led-ge : hid f ≤ led
     pub upward : suc (low f) ≤ exponent → of_fraction (led * 2 ^ (exponent - suc (low f))) 1 ≡ from_seconds x
     pub downward : 0 < exponent → exponent ≤ suc (low f) → of_fraction led (2 ^ (suc (low f) - exponent)) ≡ from_seconds x
-    pub nothing : exponent + (prec f + 31) ≤ suc (low f) → Is (record { secs = 0; nanos = 0 }) ≡ from_seconds x
+    pub nothing : exponent + (prec f + 31) ≤ suc (low f) → Ok (record { secs = 0; nanos = 0 }) ≡ from_seconds x
 
 -- and why, of the size of an x that is no NaN
 module _ (f : Format) (w : ℕ) (W : top f ≡ 2 ^ (w + (prec f - 1))) (x : Float) (F : T (fits f x)) (N : T (not (is_nan x))) where
@@ -174,7 +166,7 @@ module _ (f : Format) (w : ℕ) (W : top f ≡ 2 ^ (w + (prec f - 1))) (x : Floa
   below_point : 0 < e → e ≤ suc (low f) → of_size x ≡ of_fraction m (2 ^ (suc (low f) - e))
   below_point z h = normal z ∙ scaled_down m (e - 1) (low f) (omega arith) ∙ ap (λ (w : ℕ). of_fraction m (2 ^ w)) (omega arith)
 
-  subnormal : e ≡ 0 → of_size x ≡ Is (record { secs = 0; nanos = 0 })
+  subnormal : e ≡ 0 → of_size x ≡ Ok (record { secs = 0; nanos = 0 })
   subnormal z =
       read
       ∙ ap (λ (y : ℕ). of_fraction (digits f y t * 2 ^ (y - 1)) (2 ^ low f)) z
@@ -185,7 +177,7 @@ module _ (f : Format) (w : ℕ) (W : top f ≡ 2 ^ (w + (prec f - 1))) (x : Floa
       far binary32 = lit≤ tt
       far binary64 = lit≤ tt
 
-  too_small : e + (prec f + 31) ≤ suc (low f) → of_size x ≡ Is (record { secs = 0; nanos = 0 })
+  too_small : e + (prec f + 31) ≤ suc (low f) → of_size x ≡ Ok (record { secs = 0; nanos = 0 })
   too_small h = elim (eq-zero-or-pos e) [
     | inl z ↦ subnormal z
     | inr z ↦ below_point z (omega arith) ∙ under_half m (prec f) (suc (low f) - e) (subst (λ (z : ℕ). m < z) (twice f) m_lt) (omega arith)
@@ -200,7 +192,6 @@ pattern f w W x F R = record {
   number = N;
   bits-lt = to_bits-lt f x G;
   led-lt = m_lt f w W x G N;
-  led-ge = rw (m_is f w W x G N) (omega arith);
   upward = λ h. sym (sized ∙ above_point f w W x G N h);
   downward = λ z h. sym (sized ∙ below_point f w W x G N z h);
   nothing = λ h. sym (sized ∙ too_small f w W x G N h);

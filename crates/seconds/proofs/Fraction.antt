@@ -1,17 +1,16 @@
 -- What `of_fraction` is: of equal fractions, of a whole number, and of a number over a power of two. Assumes nothing.
-use Rattle.std.proofs.Common.{◌≡◌, ℕ, ◌+◌, ◌-◌, ◌*◌, ◌/◌, ◌%◌, ◌^◌, ◌<◌, ◌≤◌, sym, ap, ◌∙◌, inl, inr, le_trans, le_of_eq, lt_of_lt_of_le, lt_of_le_of_lt, mul-le-mul_right, mod-eq_of_lt, mul_assoc, mul-le-mul_left, div-add-mod', mul-one, mul_right_comm, not-le_of_lt, le_of_mul-le-mul_right, div-one, arith, lit<, pow_pos, pow_mono, pow-add, le-leb}
+use Rattle.std.proofs.Common.{Ok, Err, ◌≡◌, ℕ, ◌+◌, ◌-◌, ◌*◌, ◌/◌, ◌%◌, ◌^◌, ◌<◌, ◌≤◌, sym, ap, ◌∙◌, inl, inr, le_trans, le_of_eq, lt_of_lt_of_le, lt_of_le_of_lt, mul-le-mul_right, mod-eq_of_lt, mul_assoc, mul-le-mul_left, div-add-mod', mul-one, mul_right_comm, not-le_of_lt, le_of_mul-le-mul_right, div-one, arith, lit<, pow_pos, pow_mono, pow-add, le-leb}
 use native.Mathlib.Nat.{div-eq_of_lt}
 use lib.Ieee.Nearest.{closest, closest_same}
 use borrow.Author.Tests.{lt-leb}
-use Rattle.laws.proofs.Closest.{le_or_lt, at_lt, closest-add, closest_le}
+use Rattle.laws.proofs.Closest.{le_or_lt, at_lt, closest-add}
 use Rattle.refusal.specs.declared.Refusal.TheVariants.{OverflowOrNan}
-use Rattle.duration.specs.declared.Answer.TheVariants.{Is, Refused}
 use Rattle.duration.specs.Meaning.{exact}
 use Rattle.duration.proofs.Exact.{exact_is}
 use Rattle.seconds.specs.From.{of_fraction}
 
 -- ---- the two ways
-pub over : (a b : ℕ) → 2 ^ 64 * b ≤ a → of_fraction a b ≡ Refused OverflowOrNan
+pub over : (a b : ℕ) → 2 ^ 64 * b ≤ a → of_fraction a b ≡ Err OverflowOrNan
 unfolding of_fraction
 over a b h = rw (le-leb (2 ^ 64 * b) a h)
 
@@ -57,7 +56,7 @@ scaled_down m e l h =
 pub closest-whole : (n : ℕ) → closest n 1 ≡ n
 closest-whole n = at_lt (n / 1) (n % 1 * 2) 1 (omega arith) ∙ div-one n
 
-whole_is : (n : ℕ) → n < 2 ^ 64 → of_fraction n 1 ≡ Is (record { secs = n; nanos = 0 })
+whole_is : (n : ℕ) → n < 2 ^ 64 → of_fraction n 1 ≡ Ok (record { secs = n; nanos = 0 })
 whole_is n h = within n 1 (omega arith) ∙ ap exact (closest-whole (n * 10 ^ 9)) ∙ sym (exact_is h (lit< tt) (omega arith))
 
 -- ---- an m below 2 ^ 53, over 2 ^ k
@@ -73,7 +72,7 @@ module _ (m k : ℕ) (M : m < 2 ^ 53) where
       parts = rw (mul_right_comm (m / 2 ^ k) (10 ^ 9) (2 ^ k)) (omega (arith, div-add-mod' m (2 ^ k)))
 
 -- an m of b digits, 31 and more places below: less than half a nanosecond
-pub under_half : (m b k : ℕ) → m < 2 ^ b → b + 31 ≤ k → of_fraction m (2 ^ k) ≡ Is (record { secs = 0; nanos = 0 })
+pub under_half : (m b k : ℕ) → m < 2 ^ b → b + 31 ≤ k → of_fraction m (2 ^ k) ≡ Ok (record { secs = 0; nanos = 0 })
 under_half m b k M h =
     within m (2 ^ k) (omega (arith, lt))
     ∙ ap exact (at_lt (m * 10 ^ 9 / 2 ^ k) (m * 10 ^ 9 % 2 ^ k * 2) (2 ^ k) (rw (mod-eq_of_lt once) lt) ∙ div-eq_of_lt once)
@@ -88,18 +87,15 @@ under_half m b k M h =
     once : m * 10 ^ 9 < 2 ^ k
     once = omega (arith, lt)
 
-pub below_second : (k x : ℕ) → x < 2 ^ k → closest (x * 10 ^ 9) (2 ^ k) ≤ 10 ^ 9
-below_second k x h = closest_le (x * 10 ^ 9) (2 ^ k) (10 ^ 9) (pow_pos k) (omega arith)
-
 -- ---- the ways of `large`, on m * 2 ^ up
-pub too_far : (m up most : ℕ) → 2 ^ 64 ≤ m * 2 ^ (most + 1) → most < up → Refused OverflowOrNan ≡ of_fraction (m * 2 ^ up) 1
+pub too_far : (m up most : ℕ) → 2 ^ 64 ≤ m * 2 ^ (most + 1) → most < up → Err OverflowOrNan ≡ of_fraction (m * 2 ^ up) 1
 too_far m up most M h = sym (over (m * 2 ^ up) 1 (le_trans M (mul-le-mul_left m (pow_mono (next most up h)))))
   where
     next : (a b : ℕ) → a < b → a + 1 ≤ b
     next a b h = omega arith
 
-pub shifted : (m up most : ℕ) → m * 2 ^ most < 2 ^ 64 → up ≤ most → Is (record { secs = m * 2 ^ up % 2 ^ 64; nanos = 0 }) ≡ of_fraction (m * 2 ^ up) 1
-shifted m up most M h = sym (whole_is (m * 2 ^ up) lt ∙ ap (λ (z : ℕ). Is (record { secs = z; nanos = 0 })) (sym (mod-eq_of_lt lt)))
+pub shifted : (m up most : ℕ) → m * 2 ^ most < 2 ^ 64 → up ≤ most → Ok (record { secs = m * 2 ^ up % 2 ^ 64; nanos = 0 }) ≡ of_fraction (m * 2 ^ up) 1
+shifted m up most M h = sym (whole_is (m * 2 ^ up) lt ∙ ap (λ (z : ℕ). Ok (record { secs = z; nanos = 0 })) (sym (mod-eq_of_lt lt)))
   where
     lt : m * 2 ^ up < 2 ^ 64
     lt = lt_of_le_of_lt (mul-le-mul_left m (pow_mono h)) M

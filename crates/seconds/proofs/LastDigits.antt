@@ -1,8 +1,9 @@
 -- What the last digits of a whole number count for in a float: above the format's digits and one more, only as zero or not. Assumes nothing.
-use Rattle.std.proofs.Common.{◌≡◌, ℕ, zero, suc, ◌+◌, ◌-◌, ◌*◌, ◌/◌, ◌%◌, ◌^◌, ◌<◌, ◌≤◌, false, sym, ap, ◌∙◌, inl, inr, le_trans, le_of_eq, le_refl, lt_of_lt_of_le, le-add_right, mul-le-mul_right, mul_assoc, add-lt-add_of_le_of_lt, suc-mul, add-mul, le_antisymm, mul-pos, one-mul, mul_right_comm, not-le_of_lt, div-one, arith, pow_pos, pow_mono, pow-add, shl_lt}
+use Rattle.std.proofs.Common.{max, bit_or, eq-zero-or-pos, ◌≡◌, ℕ, zero, suc, ◌+◌, ◌-◌, ◌*◌, ◌/◌, ◌%◌, ◌^◌, ◌<◌, ◌≤◌, false, sym, ap, ◌∙◌, inl, inr, le_trans, le_of_eq, le_refl, lt_of_lt_of_le, le-add_right, mul-le-mul_right, mul_assoc, add-lt-add_of_le_of_lt, suc-mul, add-mul, le_antisymm, mul-pos, one-mul, mul_right_comm, not-le_of_lt, div-one, arith, pow_pos, pow_mono, pow-add, shl_lt}
 use Prim.Native.Nat.{compare}
 use native.Mathlib.Nat.{pow-succ'}
-use lib.Ieee.{Format, prec, low, size, units, nearest}
+use lib.Bits.{or_step, or_zero_r, or_lt}
+use lib.Ieee.{Format, binary32, prec, low, size, units, nearest}
 use lib.Ieee.Fits.{round_is}
 use lib.Ieee.Digits.{size-lt, size-le, size_reaches}
 use lib.Ieee.Nearest.{closest}
@@ -102,3 +103,36 @@ module _ (f : Format) (a b b' j : ℕ) (A : prec f < size a) (B : b < 2 ^ j) (B'
     where
       one : (b : ℕ) → b < 2 ^ j → whole f (a * 2 ^ j + b) ≡ units f false (closest (wide b) (1 * 2 ^ k)) k
       one b h = whole-round f (a * 2 ^ j + b) ∙ round_is f false (a * 2 ^ j + b) 1 ∙ ap (λ (z : ℕ). units f false (closest (wide b) (1 * 2 ^ z)) z) (dropped b h)
+
+-- ---- the way of `digits`: of the last 18 bits none counts, or some, and in those the bit above them stands for all
+abbrev sticky : ℕ → ℕ
+sticky n = (n % 0x4_0000 + 0x3_ffff) / 0x4_0000
+
+or-one : (x : ℕ) → bit_or x 1 ≡ x / 2 * 2 + 1
+or-one x = or_step x 1 ∙ ap (λ (z : ℕ). z * 2 + max (x % 2) 1) (or_zero_r (x / 2)) ∙ ap (λ (z : ℕ). x / 2 * 2 + z) larger
+  where
+    larger : max (x % 2) 1 ≡ 1
+    larger = omega arith
+
+module _ (n : ℕ) (L : 2 ^ 46 ≤ n) where
+  abbrev cut : ℕ
+  cut = bit_or (n / 0x4_0000) (sticky n)
+
+  no_rest : n % 0x4_0000 ≡ 0 → cut * 2 ^ 18 ≡ n
+  no_rest z = let e : sticky n ≡ 0 = omega arith in rw (e, or_zero_r) (omega arith)
+
+  with_rest : 0 < n % 0x4_0000 → cut * 2 ^ 18 ≡ n / 2 ^ 19 * 2 ^ 19 + 2 ^ 18
+  with_rest z = let e : sticky n ≡ 1 = omega arith in rw (e, or-one (n / 0x4_0000)) (omega arith)
+
+  pub cut_is : whole binary32 (cut * 2 ^ 18) ≡ whole binary32 n
+  cut_is = elim (eq-zero-or-pos (n % 0x4_0000)) [
+    | inl z ↦ ap (whole binary32) (no_rest z)
+    | inr z ↦
+        let split : n / 2 ^ 19 * 2 ^ 19 + n % 2 ^ 19 ≡ n = omega arith in
+        ap (whole binary32) (with_rest z)
+        ∙ same_float binary32 (n / 2 ^ 19) (2 ^ 18) (n % 2 ^ 19) 19 (size_above (n / 2 ^ 19) 24 (omega arith)) (omega arith) (omega arith) (omega arith) (omega arith)
+        ∙ ap (whole binary32) split
+  ]
+
+  pub cut_lt : n < 2 ^ 64 → cut < 2 ^ 46
+  cut_lt h = or_lt 46 (n / 0x4_0000) (sticky n) (omega arith) (omega arith)

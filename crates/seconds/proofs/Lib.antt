@@ -4,7 +4,6 @@ pub mod Rounding
 pub mod FewDigits
 pub mod NoTie
 pub mod Fields
-pub mod Values
 pub mod Operations
 pub mod LastDigits
 pub mod Scaled

@@ -1,9 +1,9 @@
 -- The ways of `tiny` and `faint`: m / 2 ^ k seconds with m so far below 2 ^ k that no tie can be, since 5 ^ 9 is odd. Assumes nothing.
-use Rattle.std.proofs.Common.{◌≡◌, ℕ, zero, suc, ◌+◌, ◌-◌, ◌*◌, ◌/◌, ◌%◌, ◌^◌, ◌<◌, ◌≤◌, sym, refl, ap, ◌∙◌, subst, le_trans, lt_of_lt_of_le, add-zero, mul_assoc, mul_comm, add-mul, div-add-mod', zero-add, mul-one, mul-add, arith, lit<, pow_pos, pow_mono, pow-add}
+use Rattle.std.proofs.Common.{Ok, ◌≡◌, ℕ, zero, suc, ◌+◌, ◌-◌, ◌*◌, ◌/◌, ◌%◌, ◌^◌, ◌<◌, ◌≤◌, sym, refl, ap, ◌∙◌, subst, le_trans, le_of_eq, lt_of_lt_of_le, add-zero, mul_assoc, mul_comm, add-mul, div-add-mod', zero-add, mul-one, mul-add, arith, lit<, pow_pos, pow_mono, pow-add}
 use native.Mathlib.Nat.{pow-succ'}
+use Rattle.std.proofs.lemmas.Nat.{one_shl}
 use lib.Ieee.Nearest.{closest}
 use Rattle.laws.proofs.Closest.{by_half, closest_le}
-use Rattle.duration.specs.declared.Answer.TheVariants.{Is}
 use Rattle.duration.proofs.Exact.{exact_is}
 use Rattle.seconds.specs.From.{of_fraction}
 use Rattle.seconds.proofs.Fraction.{within, small}
@@ -82,53 +82,78 @@ no_tie m a b p h k H B e g K M = by_half a b p h H B never ∙ ap (λ (z : ℕ).
         (half (h * p) (2 ^ k) (2 ^ (k - 10)) (sym g ∙ add-mul h h p) (ap (λ (w : ℕ). 2 ^ w) (sym (back k K)) ∙ pow-add 2 (k - 10) 10))
         M
 
--- `tiny` has the upper word of m * 10 ^ 9
-abbrev pub upper : ℕ → ℕ
-upper m = m / 0x1_0000_0000 * 1000000000 + m % 0x1_0000_0000 * 1000000000 / 0x1_0000_0000
-
-pub tiny-nanos : (m k : ℕ) {half : ℕ} → 32 < k → m < 2 ^ (k - 10) → half ≡ 2 ^ (k - 33) → (upper m + half) / 2 ^ (k - 32) ≡ closest (m * 10 ^ 9) (2 ^ k)
-tiny-nanos m k {half} K M e =
-    ap (λ (z : ℕ). (upper m + z) / 2 ^ (k - 32)) e
-    ∙ ap (λ (z : ℕ). (upper m + 2 ^ (k - 33)) / z) (sym twice)
-    ∙ no_tie m (upper m) (m % 0x1_0000_0000 * 1000000000 % 0x1_0000_0000) (2 ^ 32) (2 ^ (k - 33)) k (pow_pos (k - 33)) (omega arith) (words m)
-    (ap (λ (z : ℕ). z * 2 ^ 32) twice ∙ sym (pow-add 2 (k - 32) 32) ∙ ap (λ (z : ℕ). 2 ^ z) (whole k K))
-    (omega arith)
-    M
-  where
-    less : (k : ℕ) → 32 < k → k - 32 - 1 ≡ k - 33
-    less k h = omega arith
-
-    whole : (k : ℕ) → 32 < k → k - 32 + 32 ≡ k
-    whole k h = omega arith
-
-    twice : 2 ^ (k - 33) + 2 ^ (k - 33) ≡ 2 ^ (k - 32)
-    twice = subst (λ (z : ℕ). 2 ^ z + 2 ^ z ≡ 2 ^ (k - 32)) (less k K) (halves (k - 32) (omega arith))
-
--- `faint` has the whole of it
-pub faint-nanos : (m k : ℕ) {half : ℕ} → 10 ≤ k → m < 2 ^ (k - 10) → half ≡ 2 ^ (k - 1) → (m * 10 ^ 9 + half) / 2 ^ k ≡ closest (m * 10 ^ 9) (2 ^ k)
-faint-nanos m k {half} K M e =
-    ap (λ (z : ℕ). (m * 10 ^ 9 + z) / 2 ^ k) e
-    ∙ ap (λ (z : ℕ). (m * 10 ^ 9 + 2 ^ (k - 1)) / z) (sym twice)
-    ∙ no_tie m (m * 10 ^ 9) 0 1 (2 ^ (k - 1)) k (pow_pos (k - 1)) (lit< tt) (add-zero (m * 10 ^ 9 * 1) ∙ mul-one (m * 10 ^ 9)) (mul-one (2 ^ (k - 1) + 2 ^ (k - 1)) ∙ twice) K M
-  where
-    twice : 2 ^ (k - 1) + 2 ^ (k - 1) ≡ 2 ^ k
-    twice = halves k (omega arith)
-
--- ---- the answer
+-- ---- m is so far below 2 ^ k
 pub apart : (m b k : ℕ) → m < 2 ^ b → b + 10 ≤ k → m < 2 ^ (k - 10)
 apart m b k M h = let l : b ≤ k - 10 = omega arith in lt_of_lt_of_le M (pow_mono l)
 
-pub halved : (m k : ℕ) → 32 < k → m < 2 ^ (k - 10) → m * 2 ≤ 2 ^ k
+halved : (m k : ℕ) → 10 < k → m < 2 ^ (k - 10) → m * 2 ≤ 2 ^ k
 halved m k K M = le_trans (up m (2 ^ (k - 10)) M) (subst (λ (z : ℕ). z ≤ 2 ^ k) (pow-add 2 (k - 10) 1) (let l : k - 10 + 1 ≤ k = omega arith in pow_mono l))
   where
     up : (m d : ℕ) → m < d → m * 2 ≤ d * 2
     up m d h = omega arith
 
-pub tiny_le : (m k : ℕ) → m * 2 ≤ 2 ^ k → closest (m * 10 ^ 9) (2 ^ k) ≤ 999999999
-tiny_le m k h = closest_le (m * 10 ^ 9) (2 ^ k) 999999999 (pow_pos k) (few m (2 ^ k) (pow_pos k) h)
-  where
-    few : (m d : ℕ) → 0 < d → m * 2 ≤ d → m * 10 ^ 9 < 999999999 * d
-    few m d D h = omega arith
+-- so its nanoseconds n are below a second, and the answer
+module _ (m k : ℕ) {n : ℕ} (K : 10 < k) (A : m < 2 ^ (k - 10)) (e : n ≡ closest (m * 10 ^ 9) (2 ^ k)) where
+  below : n ≤ 999999999
+  below = le_trans (le_of_eq e) (closest_le (m * 10 ^ 9) (2 ^ k) 999999999 (pow_pos k) (few m (2 ^ k) (pow_pos k) (halved m k K A)))
+    where
+      few : (m d : ℕ) → 0 < d → m * 2 ≤ d → m * 10 ^ 9 < 999999999 * d
+      few m d D h = omega arith
 
-pub tiny_is : (m k : ℕ) {n : ℕ} → m < 2 ^ 53 → m * 2 ≤ 2 ^ k → n ≡ closest (m * 10 ^ 9) (2 ^ k) → Is (record { secs = 0; nanos = n }) ≡ of_fraction m (2 ^ k)
-tiny_is m k {n} M h e = exact_is (lit< tt) (omega (arith, e, tiny_le m k h)) (zero-add n ∙ e) ∙ sym (within m (2 ^ k) (small m k M))
+  answer : m < 2 ^ 53 → Ok (record { secs = 0; nanos = n }) ≡ of_fraction m (2 ^ k)
+  answer M = exact_is (lit< tt) (omega (arith, below)) (zero-add n ∙ e) ∙ sym (within m (2 ^ k) (small m k M))
+
+-- ---- `tiny` has the upper word of m * 10 ^ 9
+abbrev upper : ℕ → ℕ
+upper m = m / 0x1_0000_0000 * 1000000000 + m % 0x1_0000_0000 * 1000000000 / 0x1_0000_0000
+
+module _ (m k : ℕ) (M : m < 2 ^ 53) (A : m < 2 ^ (k - 10)) (K : 32 < k) (L : k < 96) where
+  abbrev tiny : ℕ
+  tiny = (upper m + 1 * 2 ^ (k - 33) % 2 ^ 64) / 2 ^ (k - 32)
+
+  tiny-nanos : tiny ≡ closest (m * 10 ^ 9) (2 ^ k)
+  tiny-nanos =
+      ap (λ (z : ℕ). (upper m + z) / 2 ^ (k - 32)) (one_shl (k - 33) 64 (omega arith))
+      ∙ ap (λ (z : ℕ). (upper m + 2 ^ (k - 33)) / z) (sym twice)
+      ∙ no_tie m (upper m) (m % 0x1_0000_0000 * 1000000000 % 0x1_0000_0000) (2 ^ 32) (2 ^ (k - 33)) k (pow_pos (k - 33)) (omega arith) (words m)
+      (ap (λ (z : ℕ). z * 2 ^ 32) twice ∙ sym (pow-add 2 (k - 32) 32) ∙ ap (λ (z : ℕ). 2 ^ z) whole)
+      (omega arith)
+      A
+    where
+      less : k - 32 - 1 ≡ k - 33
+      less = omega arith
+
+      whole : k - 32 + 32 ≡ k
+      whole = omega arith
+
+      twice : 2 ^ (k - 33) + 2 ^ (k - 33) ≡ 2 ^ (k - 32)
+      twice = subst (λ (z : ℕ). 2 ^ z + 2 ^ z ≡ 2 ^ (k - 32)) less (halves (k - 32) (omega arith))
+
+  pub tiny_fits : tiny ≤ 999999999
+  tiny_fits = below m k (omega arith) A tiny-nanos
+
+  pub tiny_is : Ok (record { secs = 0; nanos = tiny }) ≡ of_fraction m (2 ^ k)
+  tiny_is = answer m k (omega arith) A tiny-nanos M
+
+-- ---- `faint` has the whole of it
+module _ (m k : ℕ) (M : m < 2 ^ 24) (K : 34 ≤ k) (L : k ≤ 55) where
+  abbrev faint : ℕ
+  faint = (m * 10 ^ 9 + 1 * 2 ^ (k - 1) % 2 ^ 64) / 2 ^ k
+
+  far : m < 2 ^ (k - 10)
+  far = apart m 24 k M (omega arith)
+
+  faint-nanos : faint ≡ closest (m * 10 ^ 9) (2 ^ k)
+  faint-nanos =
+      ap (λ (z : ℕ). (m * 10 ^ 9 + z) / 2 ^ k) (one_shl (k - 1) 64 (omega arith))
+      ∙ ap (λ (z : ℕ). (m * 10 ^ 9 + 2 ^ (k - 1)) / z) (sym twice)
+      ∙ no_tie m (m * 10 ^ 9) 0 1 (2 ^ (k - 1)) k (pow_pos (k - 1)) (lit< tt) (add-zero (m * 10 ^ 9 * 1) ∙ mul-one (m * 10 ^ 9)) (mul-one (2 ^ (k - 1) + 2 ^ (k - 1)) ∙ twice) (omega arith) far
+    where
+      twice : 2 ^ (k - 1) + 2 ^ (k - 1) ≡ 2 ^ k
+      twice = halves k (omega arith)
+
+  pub faint_fits : faint ≤ 999999999
+  faint_fits = below m k (omega arith) far faint-nanos
+
+  pub faint_is : Ok (record { secs = 0; nanos = faint }) ≡ of_fraction m (2 ^ k)
+  faint_is = answer m k (omega arith) far faint-nanos (omega arith)

@@ -1,8 +1,8 @@
 -- The float operations on values that are fractions: each is one rounding of the exact result. One law for both widths. Assumes nothing.
-use Rattle.std.proofs.Common.{◌≡◌, ℕ, zero, suc, ◌+◌, ◌-◌, ◌*◌, ◌^◌, ◌<◌, ◌≤◌, true, false, sym, refl, ap, ◌∙◌, subst, true≢false, le_trans, le_of_eq, lt_of_lt_of_le, le_of_lt, mul-le-mul_right, zero-lt-suc, mul_assoc, mul_comm, add-mul, mul-pos, zero-mul, mul-one, mul_right_comm, le_of_mul-le-mul_right, mul_left_comm, arith, pow_mono, pow-add, shl_lt, le-ltb}
+use Rattle.std.proofs.Common.{◌≡◌, ℕ, zero, suc, ◌+◌, ◌-◌, ◌*◌, ◌/◌, ◌%◌, ◌^◌, ◌<◌, ◌≤◌, true, false, sym, refl, ap, ◌∙◌, subst, true≢false, le_trans, le_of_eq, lt_of_lt_of_le, le_of_lt, mul-le-mul_right, zero-lt-suc, mul_assoc, mul_comm, add-mul, mul-pos, zero-mul, mul-one, mul_right_comm, le_of_mul-le-mul_right, mul_left_comm, arith, pow_mono, pow-add, shl_lt, le-ltb, lit≤}
 use native.Mathlib.Nat.{mul-sub, mul-mul-mul_comm}
 use lib.Dec.{eqb-suc-zero}
-use lib.Ieee.{Float, nan, inf, fin, Format, prec, emax, low, up, down, round, add, sum, sub, neg, mul, div, of_int}
+use lib.Ieee.{Float, nan, inf, fin, Format, binary32, binary64, prec, emax, low, up, down, round, add, sum, sub, neg, mul, div, of_int}
 use lib.Ieee.Fits.{up_pos, down_pos}
 use lib.Ieee.Exact.{HasValue, round_exact}
 use lib.Ieee.Scale.{round_same}
@@ -128,9 +128,15 @@ sum-whole f x y a b h k =
     add_at f (zero-lt-suc 0) (zero-lt-suc 0) x y a b h k ∙ ap (λ (z : ℕ). round f false z 1) (ap (λ (z : ℕ). z + b * 1) (mul-one a) ∙ ap (λ (z : ℕ). a + z) (mul-one b)) ∙ sym (whole-round f (a + b))
 
 -- so two parts of a number, the upper one k places above the lower, make it in one rounding
-pub halves_are : (f : Format) (high rest k n : ℕ) → high < 2 ^ prec f → rest < 2 ^ prec f → prec f + k ≤ suc (emax f) → high * 2 ^ k + rest ≡ n
+halves_are : (f : Format) (high rest k n : ℕ) → high < 2 ^ prec f → rest < 2 ^ prec f → prec f + k ≤ suc (emax f) → high * 2 ^ k + rest ≡ n
     → add f (whole f (high * 2 ^ k)) (whole f (rest * 1)) ≡ whole f n
 halves_are f high rest k n H R r e =
     ap (λ (z : ℕ). add f (whole f (high * 2 ^ k)) (whole f z)) (mul-one rest)
     ∙ sum-whole f (whole f (high * 2 ^ k)) (whole f rest) (high * 2 ^ k) rest (shifted_val f high k H r) (whole_val f rest (le_of_lt R))
     ∙ ap (whole f) e
+
+pub f64_halves : (n : ℕ) → n < 2 ^ 64 → add binary64 (whole binary64 (n / 0x1_0000_0000 * 2 ^ 32)) (whole binary64 (n % 0x1_0000_0000 * 1)) ≡ whole binary64 n
+f64_halves n N = halves_are binary64 (n / 0x1_0000_0000) (n % 0x1_0000_0000) 32 n (omega arith) (omega arith) (lit≤ tt) (omega arith)
+
+pub f32_halves : (n : ℕ) → n < 2 ^ 46 → add binary32 (whole binary32 (n / 0x80_0000 * 2 ^ 23)) (whole binary32 (n % 0x80_0000 * 1)) ≡ whole binary32 n
+f32_halves n N = halves_are binary32 (n / 0x80_0000) (n % 0x80_0000) 23 n (omega arith) (omega arith) (lit≤ tt) (omega arith)

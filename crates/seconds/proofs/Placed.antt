@@ -1,12 +1,12 @@
 -- A whole number as the digits of a float's pattern, with the float that has none of them taken off, and a power of two by its exponent alone: one law for both widths. Assumes nothing.
-use Rattle.std.proofs.Common.{◌≡◌, ℕ, suc, ◌+◌, ◌-◌, ◌*◌, ◌^◌, ◌<◌, ◌≤◌, Bool, false, not, T, ltb, sym, ap, ◌∙◌, subst, le_trans, le_of_eq, le-add_right, add-zero, lt_irrefl, mul-le-mul_right, mod-eq_of_lt, mul_assoc, suc-mul, mul_comm, add-mul, mul-one, arith, pow_pos, pow-add, ne_eqb}
+use Rattle.std.proofs.lemmas.Float.{not_nan_f32_bits}
+use Rattle.std.proofs.Common.{if◌then◌else◌, nat_lt, true, refl, ◌≡◌, ℕ, suc, ◌+◌, ◌-◌, ◌*◌, ◌^◌, ◌<◌, ◌≤◌, Bool, false, not, T, sym, ap, ◌∙◌, subst, le-add_right, add-zero, lt_irrefl, mul-le-mul_right, mod-eq_of_lt, mul_assoc, mul_comm, add-mul, mul-one, arith, pow_pos, pow-add, ne_eqb}
 use native.Mathlib.Nat.{add-sub_cancel_left}
-use lib.Arith.{digits_lt, digits_div, digits_mod, le→nltb}
-use lib.Ieee.{Float, Format, prec, emax, low, hid, ones, top, odd, round, sub, mul, of_fields, of_bits, nan_bits}
+use lib.Arith.{digits_lt, digits_div, digits_mod}
+use lib.Ieee.{Float, Format, binary32, prec, emax, low, hid, ones, top, odd, round, sub, mul, of_fields, of_bits, nan_bits}
 use lib.Ieee.Fits.{two, reach}
 use lib.Ieee.Exact.{HasValue, odd_sign}
 use lib.Ieee.Scale.{round_same}
-use lib.Ieee.Bits.{nan_bits_above}
 use borrow.Author.Tests.{lt-leb}
 use Rattle.seconds.specs.Out.{whole}
 use Rattle.seconds.proofs.Operations.{whole-round, sub_at}
@@ -23,12 +23,6 @@ module _ (f : Format) (j t : ℕ) (X : suc j < ones f) (H : t < hid f) where
       next : (x o : ℕ) → x < o → x < suc o
       next x o h = omega arith
 
-  no_nan : T (not (nan_bits f b))
-  no_nan = subst (λ (z : Bool). T (not z)) (sym (nan_bits_above f b ∙ ap (ltb (ones f * hid f)) (mod-eq_of_lt under_top))) (le→nltb (ones f * hid f) b (le_trans (below (suc j * hid f) t (hid f) H) (le_trans (le_of_eq (sym (suc-mul (suc j) (hid f)))) (mul-le-mul_right (hid f) X))))
-    where
-      below : (x t h : ℕ) → t < h → x + t ≤ x + h
-      below x t h l = omega arith
-
   bits_are : of_bits f b ≡ odd (prec f) false (hid f + t) j (low f)
   unfolding of_bits of_fields
   bits_are = rw (lt-leb (top f) b under_top, mod-eq_of_lt under_top, digits_div (suc j) H, digits_mod (suc j) H, ne_eqb (suc j) (ones f) other)
@@ -41,9 +35,6 @@ module _ (f : Format) (j t : ℕ) (X : suc j < ones f) (H : t < hid f) where
 
 -- ---- no digits
 module _ (f : Format) (j : ℕ) (X : suc j < ones f) where
-  bare_number : T (not (nan_bits f (suc j * hid f)))
-  bare_number = subst (λ (z : ℕ). T (not (nan_bits f z))) (add-zero (suc j * hid f)) (no_nan f j 0 X (pow_pos (prec f - 1)))
-
   bare_value : HasValue (of_bits f (suc j * hid f)) false (hid f * 2 ^ j) (2 ^ low f)
   bare_value =
       subst (λ (z : ℕ). HasValue (of_bits f z) false (hid f * 2 ^ j) (2 ^ low f)) (add-zero (suc j * hid f))
@@ -60,9 +51,6 @@ module _ (f : Format) (k x : ℕ) (e : x ≡ emax f + k) (X : x < ones f) where
   in_field : suc (emax f - 1 + k) < ones f
   in_field = subst (λ (z : ℕ). z < ones f) next X
 
-  pub power-number : T (not (nan_bits f (x * hid f)))
-  power-number = rw next (bare_number f (emax f - 1 + k) in_field)
-
   power-value : HasValue (of_bits f (x * hid f)) false (2 ^ k) 1
   power-value =
       lowered (of_bits f (x * hid f)) (2 ^ k) (2 ^ low f) (pow_pos (low f))
@@ -72,19 +60,30 @@ module _ (f : Format) (k x : ℕ) (e : x ≡ emax f + k) (X : x < ones f) where
       go : (p e : ℕ) → 2 ≤ p → p ≤ suc e → p - 1 + (e - 1 + k) ≡ k + (e + p - 2)
       go p e h g = omega arith
 
-  pub times_power : (m b : ℕ) → m < 2 ^ b → b + k ≤ emax f → mul f (whole f m) (of_bits f (x * hid f)) ≡ whole f (m * 2 ^ k)
+  times_power : (m b : ℕ) → m < 2 ^ b → b + k ≤ emax f → mul f (whole f m) (of_bits f (x * hid f)) ≡ whole f (m * 2 ^ k)
   times_power m b B K = scaled_is f m b k (of_bits f (x * hid f)) B K power-value
+
+-- the scale of an f32's digits, which count in 1 or in 2 ^ 18
+abbrev place : ℕ → ℕ
+place n = if nat_lt n (2 ^ 46) then 0 else 18
+
+place-le : (n : ℕ) → place n ≤ 18
+place-le n = go (nat_lt n (2 ^ 46))
+  where
+    go : (b : Bool) → (if b then 0 else 18) ≤ 18
+    go true = omega arith
+    go false = omega arith
+
+pub scale_number : (n b : ℕ) → b ≡ (127 + place n) * 2 ^ 23 → T (not (nan_bits binary32 b))
+scale_number n b e = rw e (not_nan_f32_bits ((127 + place n) * 2 ^ 23) (omega (arith, place-le n)))
+
+pub scaled_digits : (n m : ℕ) → m < 2 ^ 46 → mul binary32 (whole binary32 m) (of_bits binary32 ((127 + place n) * 2 ^ 23)) ≡ whole binary32 (m * 2 ^ place n)
+scaled_digits n m M = times_power binary32 (place n) (127 + place n) refl (omega (arith, place-le n)) m 46 M (omega (arith, place-le n))
 
 -- ---- the machine's pattern: x is the exponent's field, and its digits count in 2 ^ p
 module _ (f : Format) (p x : ℕ) (e : x ≡ suc (low f + p)) (X : x < ones f) where
   X' : suc (low f + p) < ones f
   X' = subst (λ (z : ℕ). z < ones f) e X
-
-  pub is_number : (t : ℕ) → t < hid f → T (not (nan_bits f (x * hid f + t)))
-  is_number t H = rw e (no_nan f (low f + p) t X' H)
-
-  pub unit-number : T (not (nan_bits f (x * hid f)))
-  unit-number = rw e (bare_number f (low f + p) X')
 
   pub placed_is : (t : ℕ) → t < hid f → sub f (of_bits f (x * hid f + t)) (of_bits f (x * hid f)) ≡ whole f (t * 2 ^ p)
   placed_is t H =

@@ -1,7 +1,6 @@
 -- A duration as a float of either format f, each operation rounded once, in the Rust's order. Assumes nothing.
-use Rattle.std.specs.Prelude.{ℕ, ◌^◌, Bool, cond}
-use Rattle.laws.specs.Names.{pos, Float, Format, of_int, add, mul, div, BadDuration, Duration}
-use Rattle.seconds.specs.declared.{F64Answer.F64Answer, F32Answer.F32Answer}
+use Rattle.std.specs.Prelude.{ℕ, ◌^◌, Bool, cond, Result, Ok, Err}
+use Rattle.laws.specs.Names.{pos, Float, Format, of_int, add, mul, div, Refusal, BadDuration, Duration}
 
 -- a whole number, rounded where it is too wide
 abbrev pub whole : Format → ℕ → Float
@@ -23,9 +22,6 @@ nanos_as f d = add f (mul f (whole f d.secs) (whole f (10 ^ 9))) (whole f d.nano
 unfoldable pub quotient_as : Format → Duration → Duration → Float
 quotient_as f a b = div f (nanos_as f a) (nanos_as f b)
 
--- a float of each width as an answer, or BadDuration where a pair that it is made of is no duration
-abbrev pub f64_if : Bool → Float → F64Answer
-f64_if ok x = cond ok (F64Answer.Is x) (F64Answer.Refused BadDuration)
-
-abbrev pub f32_if : Bool → Float → F32Answer
-f32_if ok x = cond ok (F32Answer.Is x) (F32Answer.Refused BadDuration)
+-- a float of either width as an answer, or BadDuration where a pair that it is made of is no duration
+abbrev pub float_if : Bool → Float → Result Float Refusal
+float_if ok x = cond ok (Ok x) (Err BadDuration)

@@ -1,23 +1,8 @@
 // Float seconds: durations as floats, and floats as durations.
-#![tactic(auto)]
+#![tactic(auto, unfolding(duration::specs::Meaning::valid, duration::specs::Meaning::checked, crate::specs::Out::seconds_as, crate::specs::Out::millis_as, crate::specs::Out::nanos_as, crate::specs::Out::quotient_as, crate::specs::From::times_float, crate::specs::From::over_float,))]
 
-use refusal::Refusal;
-
+mod float;
 pub mod from;
 mod nearest;
 pub mod out;
 mod value;
-
-// An f64, or why there is none.
-#[derive(Clone, Copy)]
-pub enum F64Answer {
-    Is(f64),
-    Refused(Refusal),
-}
-
-// An f32, or why there is none.
-#[derive(Clone, Copy)]
-pub enum F32Answer {
-    Is(f32),
-    Refused(Refusal),
-}

@@ -1,43 +1,26 @@
-// A pair's seconds, milliseconds and nanoseconds as a float of each width, in the Rust's order of operations.
+// A pair's seconds, milliseconds and nanoseconds as a float of either width, in the Rust's order of operations. The scales are floats
+// exactly.
 ghost use Rattle.std.specs.Prelude.{◌≡◌};
-ghost use Rattle.std.specs.Float.{binary32, binary64};
 ghost use Rattle.seconds.specs.Out.{seconds_as, millis_as, nanos_as};
 
-use crate::nearest::{u32_to_f32, u32_to_f64, u64_to_f32, u64_to_f64};
+use crate::float::IeeeFloat;
 use duration::Duration;
 
-pub fn seconds_f64(d: Duration) -> f64
-    ensures { result ≡ seconds_as binary64 d }
+pub fn seconds<F: IeeeFloat>(d: Duration) -> F
+    ensures { F.float result ≡ seconds_as F.format d }
 {
-    u64_to_f64(d.secs) + u32_to_f64(d.nanos) / 1_000_000_000.0
+    F::nearest_u64(d.secs) + F::nearest_u32(d.nanos) / F::nearest_u32(1_000_000_000)
 }
 
-pub fn seconds_f32(d: Duration) -> f32
-    ensures { result ≡ seconds_as binary32 d }
+pub fn millis<F: IeeeFloat>(d: Duration) -> F
+    ensures { F.float result ≡ millis_as F.format d }
 {
-    u64_to_f32(d.secs) + u32_to_f32(d.nanos) / 1_000_000_000.0
+    F::nearest_u64(d.secs) * F::nearest_u32(1_000)
+        + F::nearest_u32(d.nanos) / F::nearest_u32(1_000_000)
 }
 
-pub fn millis_f64(d: Duration) -> f64
-    ensures { result ≡ millis_as binary64 d }
+pub fn nanos<F: IeeeFloat>(d: Duration) -> F
+    ensures { F.float result ≡ nanos_as F.format d }
 {
-    u64_to_f64(d.secs) * 1_000.0 + u32_to_f64(d.nanos) / 1_000_000.0
-}
-
-pub fn millis_f32(d: Duration) -> f32
-    ensures { result ≡ millis_as binary32 d }
-{
-    u64_to_f32(d.secs) * 1_000.0 + u32_to_f32(d.nanos) / 1_000_000.0
-}
-
-pub fn nanos_f64(d: Duration) -> f64
-    ensures { result ≡ nanos_as binary64 d }
-{
-    u64_to_f64(d.secs) * 1_000_000_000.0 + u32_to_f64(d.nanos)
-}
-
-pub fn nanos_f32(d: Duration) -> f32
-    ensures { result ≡ nanos_as binary32 d }
-{
-    u64_to_f32(d.secs) * 1_000_000_000.0 + u32_to_f32(d.nanos)
+    F::nearest_u64(d.secs) * F::nearest_u32(1_000_000_000) + F::nearest_u32(d.nanos)
 }

@@ -1,21 +1,16 @@
 -- Laws of rows, of their total, and of whether all are durations. Assumes nothing.
-use mathlib.Core.Path.{◌≡◌, refl, sym, ap, ◌∙◌}
-use mathlib.Core.Bool.{Bool, ◌&&◌, and_assoc}
-use mathlib.Core.List.{List, [], ◌∷◌, ◌++◌}
-use Prim.Native.Nat.{ℕ, zero, suc, ◌+◌, ◌<◌}
-use native.Mathlib.Numerals.{add-one}
-use native.Mathlib.Omega.{arith}
-use lib.ListN.{length, take, drop, get_or}
-use Rattle.duration.specs.declared.Duration.{Duration}
-use Rattle.duration.specs.Meaning.{valid}
+use Rattle.std.proofs.Common.{◌≡◌, ℕ, zero, suc, ◌+◌, ◌-◌, ◌<◌, Bool, ◌&&◌, List, [], ◌∷◌, ◌++◌, length, take, drop, get_or, min, map, refl, sym, ap, ◌∙◌, arith}
+use Rattle.std.proofs.lemmas.List.{map_more, map-append, take-map, drop-map, length-map, length-take}
+use Rattle.std.proofs.Math.Bool.{and_assoc}
+use Rattle.laws.specs.Names.{Duration, valid}
 use Rattle.sums.specs.Sum.{rows, total, each_valid}
 
--- as many rows as the two lists have
-pub rows-length : (ss ns : List ℕ) → length ss ≡ length ns → length (rows ss ns) ≡ length ss
+-- as many rows as the shorter list has elements
+rows-length : (ss ns : List ℕ) → length (rows ss ns) ≡ min (length ss) (length ns)
 unfolding rows
-rows-length [] ns e = refl
-rows-length (s ∷ ss) [] e = omega arith
-rows-length (s ∷ ss) (n ∷ ns) e = ap suc (rows-length ss ns (omega arith))
+rows-length [] ns = omega arith
+rows-length (s ∷ ss) [] = omega arith
+rows-length (s ∷ ss) (n ∷ ns) = omega (arith, rows-length ss ns)
 
 -- the rows of parts are a part of the rows
 rows_take : (k : ℕ) (ss ns : List ℕ) → rows (take k ss) (take k ns) ≡ take k (rows ss ns)
@@ -36,21 +31,14 @@ rows_drop (suc k) (s ∷ ss) [] = none (drop k ss)
     none (x ∷ l) = refl
 rows_drop (suc k) (s ∷ ss) (n ∷ ns) = rows_drop k ss ns
 
-pub rows-part : (a n : ℕ) (ss ns : List ℕ) → rows (take n (drop a ss)) (take n (drop a ns)) ≡ take n (drop a (rows ss ns))
-rows-part a n ss ns = rows_take n (drop a ss) (drop a ns) ∙ ap (take n) (rows_drop a ss ns)
-
--- one row more
-rows_suc : (i : ℕ) (ss ns : List ℕ) → i < length ss → length ss ≡ length ns → take (suc i) (rows ss ns) ≡ take i (rows ss ns) ++ (record { secs = get_or ss i 0; nanos = get_or ns i 0 } ∷ [])
-unfolding rows
-rows_suc i [] ns h e = absurd (omega arith)
-rows_suc i (s ∷ ss) [] h e = absurd (omega arith)
-rows_suc zero (s ∷ ss) (n ∷ ns) h e = refl
-rows_suc (suc i) (s ∷ ss) (n ∷ ns) h e = ap (λ (l : List Duration). record { secs = s; nanos = n } ∷ l) (rows_suc i ss ns (omega arith) (omega arith))
-
-pub rows_more : (i : ℕ) (ss ns : List ℕ) → i < length ss → length ss ≡ length ns → take (i + 1) (rows ss ns) ≡ take i (rows ss ns) ++ (record { secs = get_or ss i 0; nanos = get_or ns i 0 } ∷ [])
-rows_more i ss ns h e = rw (add-one i) (rows_suc i ss ns h e)
-
 -- rows put one after the other
+rows-append : (a b c d : List ℕ) → length a ≡ length b → rows (a ++ c) (b ++ d) ≡ rows a b ++ rows c d
+unfolding rows
+rows-append [] [] c d e = refl
+rows-append [] (n ∷ b) c d e = absurd (omega arith)
+rows-append (s ∷ a) [] c d e = absurd (omega arith)
+rows-append (s ∷ a) (n ∷ b) c d e = ap (λ (l : List Duration). record { secs = s; nanos = n } ∷ l) (rows-append a b c d (omega arith))
+
 pub total-append : (a b : List Duration) → total (a ++ b) ≡ total a + total b
 unfolding total
 total-append [] b = omega arith
@@ -60,3 +48,24 @@ pub valid-append : (a b : List Duration) → each_valid (a ++ b) ≡ (each_valid
 unfolding each_valid
 valid-append [] b = refl
 valid-append (d ∷ a) b = ap (λ (z : Bool). valid d && z) (valid-append a b) ∙ sym (and_assoc (valid d) (each_valid a) (each_valid b))
+
+-- ---- rows that are read from lists by f and g
+module _ {X Y : Type 0} (f : X → ℕ) (g : Y → ℕ) (ss : List X) (ns : List Y) where
+  -- the rows of parts
+  pub read_part : (a e : ℕ) → rows (map f (take (e - a) (drop a ss))) (map g (take (e - a) (drop a ns))) ≡ take (e - a) (drop a (rows (map f ss) (map g ns)))
+  read_part a e = rw (← take-map f (e - a) (drop a ss), ← take-map g (e - a) (drop a ns), ← drop-map f a ss, ← drop-map g a ns, rows_take, rows_drop)
+
+  -- one row more
+  pub read_more : (i : ℕ) {x : X} {y : Y} → i < length ss → length ss ≡ length ns → x ≡ get_or ss i x → y ≡ get_or ns i y
+      → rows (map f (take (i + 1) ss)) (map g (take (i + 1) ns)) ≡ rows (map f (take i ss)) (map g (take i ns)) ++ record { secs = f x; nanos = g y } ∷ []
+  unfolding rows
+  read_more i {x} {y} h e p q =
+      rw (map_more f ss i x h, map_more g ns i y (omega arith), ← p, ← q)
+      (rows-append (map f (take i ss)) (map g (take i ns)) (f x ∷ []) (g y ∷ []) (omega (arith, length-map (take i ss) f, length-map (take i ns) g, length-take i ss, length-take i ns)))
+
+  pub read_length : length (rows (map f ss) (map g ns)) ≡ min (length ss) (length ns)
+  read_length = omega (arith, rows-length (map f ss) (map g ns), length-map ss f, length-map ns g)
+
+  -- the rows of parts in front, and the rest
+  pub read_append : (cs : List X) (ms : List Y) → length ss ≡ length ns → rows (map f (ss ++ cs)) (map g (ns ++ ms)) ≡ rows (map f ss) (map g ns) ++ rows (map f cs) (map g ms)
+  read_append cs ms e = rw (map-append f ss cs, map-append g ns ms) (rows-append (map f ss) (map g ns) (map f cs) (map g ms) (omega (arith, length-map ss f, length-map ns g)))

@@ -1,17 +1,12 @@
 -- The theorems of specs/SumTheorems.antt. Assumes nothing.
-use mathlib.Core.Path.{◌≡◌, refl, sym, ap, ◌∙◌}
-use mathlib.Core.Bool.{Bool, true, false, ◌&&◌}
-use mathlib.Core.List.{List, Permᴰ}
-use Prim.Native.Nat.{ℕ, ◌-◌}
-use native.Mathlib.Omega.{arith}
-use lib.ListN.{take, drop}
-use Rattle.laws.specs.Bytes.{encoded}
-use Rattle.laws.proofs.Decoded.{decoded_undoes, whole-encoded}
-use Rattle.duration.specs.declared.Duration.{Duration}
+use mathlib.Core.List.{Permᴰ}
+use borrow.Author.Tests.{eq-eqb, le-leb}
+use Rattle.std.proofs.Common.{◌≡◌, ◌-◌, ◌%◌, Bool, true, false, ◌&&◌, List, length, refl, ap, ◌∙◌, arith}
 use Rattle.duration.specs.Meaning.{N, valid, exact}
-use Rattle.sums.specs.Sum.{rows, total, each_valid, sum_answer, sum_of}
+use Rattle.laws.specs.Names.{Duration, encoded}
+use Rattle.laws.proofs.Decoded.{decoded_undoes, whole-encoded}
+use Rattle.sums.specs.Sum.{total, each_valid, sum_answer, within, sum_of, whole_rows, bytes_sum}
 use Rattle.sums.specs.SumTheorems.{AnyOrder, EmptyIsZero, BytesAsNumbers}
-use Rattle.sums.proofs.Ranges.{inside, as-numbers}
 
 -- ---- any order
 and_swap : (p q r : Bool) → (p && (q && r)) ≡ (q && (p && r))
@@ -40,11 +35,11 @@ any_order ds es p = rw (same_total p, same-valid p)
 
 -- ---- an empty range
 pub empty_is_zero : EmptyIsZero
-unfolding sum_answer total each_valid exact
-empty_is_zero ss ns k e h = let f : k - k ≡ 0 = omega arith in sym (inside ss ns k k e (omega arith) h) ∙ ap (λ (z : ℕ). sum_answer (take z (drop k (rows ss ns)))) f
+unfolding sum_of within sum_answer total each_valid exact
+empty_is_zero ss ns k e h = let z : k - k ≡ 0 = omega arith in rw (eq-eqb (length ss) (length ns) e, le-leb k k (omega arith), le-leb k (length ss) h, z)
 
 -- ---- bytes as numbers
 pub bytes_as_numbers : BytesAsNumbers
+unfolding bytes_sum whole_rows
 bytes_as_numbers ss ns first end h k =
-    sym (as-numbers (encoded 8 ss) (encoded 4 ns) first end (whole-encoded 8 ss) (whole-encoded 4 ns))
-    ∙ (λ i. sum_of (decoded_undoes 8 ss (omega arith) h i) (decoded_undoes 4 ns (omega arith) k i) first end)
+    rw (eq-eqb (length (encoded 8 ss) % 8) 0 (whole-encoded 8 ss), eq-eqb (length (encoded 4 ns) % 4) 0 (whole-encoded 4 ns), decoded_undoes 8 ss (omega arith) h, decoded_undoes 4 ns (omega arith) k)

@@ -1,8 +1,8 @@
 -- What is proved of the sum's definition, in proofs/SumTheorems.antt. Assumes nothing.
 use mathlib.Core.List.{Permᴰ}
-use Rattle.std.specs.Prelude.{ℕ, ◌^◌, ◌≤◌, ◌<◌, ◌≡◌, List, length, get_or}
+use Rattle.std.specs.Prelude.{ℕ, ◌^◌, ◌≤◌, ◌<◌, ◌≡◌, List, length, get_or, Ok}
 use Rattle.laws.specs.Names.{Duration, of_nanos, encoded}
-use Rattle.sums.specs.Sum.{SumAnswer, sum_answer, sum_of, bytes_sum}
+use Rattle.sums.specs.Sum.{sum_answer, sum_of, bytes_sum}
 
 -- any order of the rows gives the same answer
 abbrev pub AnyOrder : Type 0
@@ -10,7 +10,7 @@ AnyOrder = (ds es : List Duration) → Permᴰ ds es → sum_answer ds ≡ sum_a
 
 -- an empty range gives ZERO
 abbrev pub EmptyIsZero : Type 0
-EmptyIsZero = (ss ns : List ℕ) (k : ℕ) → length ss ≡ length ns → k ≤ length ss → sum_of ss ns k k ≡ SumAnswer.Is (of_nanos 0)
+EmptyIsZero = (ss ns : List ℕ) (k : ℕ) → length ss ≡ length ns → k ≤ length ss → sum_of ss ns k k ≡ Ok (of_nanos 0)
 
 -- the sum over bytes answers as the sum over numbers does
 abbrev pub BytesAsNumbers : Type 0

@@ -1,95 +1,90 @@
-// A sum that carries late: rows are added with no carry, block by block, and each block is then carried into the total.
-ghost use Rattle.std.specs.Prelude.{◌≡◌, ◌+◌, ◌≤◌, min};
-ghost use Rattle.std.specs.Int.Bits.{bit_or};
-ghost use Rattle.sums.specs.Runs.{Short, Carried, Joined, answer_of};
+// A sum that carries late: the rows of a block are added with no carry, and each block is then carried into the total.
+ghost use Rattle.std.specs.Prelude.{◌^◌, ◌<◌, ◌≡◌, length, List, [], ◌∷◌, ◌++◌};
+ghost use Rattle.duration.specs.declared.Duration.{Duration};
+ghost use Rattle.sums.specs.Sum.{sum_answer};
+ghost use Rattle.sums.specs.Runs.{Sums, Short, Totals};
 
-use crate::SumAnswer;
 use duration::Duration;
 use refusal::Refusal;
 
-// Seconds in halves of 32 bits, and nanoseconds. `bad` has bit 32 exactly where a row has 10^9 nanoseconds or more.
+// The sums of a block's rows, with no carry.
 #[derive(Clone, Copy)]
-pub struct Run {
-    pub high: u64,
-    pub low: u64,
-    pub nanos: u64,
-    pub bad: u64,
+pub struct Block {
+    // The sum of the seconds wraps, and that of their high halves tells how often.
+    secs: u64,
+    high: u64,
+    nanos: u64,
+    // The largest nanoseconds of a row: a flag for a bad row takes half as long again.
+    largest: u32,
 }
 
-// The sum of no rows.
-pub const NONE: Run = Run {
-    high: 0,
-    low: 0,
-    nanos: 0,
-    bad: 0,
-};
+impl Block {
+    // The sums of no rows.
+    pub const NONE: Block = Block {
+        secs: 0,
+        high: 0,
+        nanos: 0,
+        largest: 0,
+    };
 
-// The base of a half word.
-const HALF: u64 = 0x1_0000_0000;
-
-// What 10^9 lacks to 2^32.
-const SHORT: u64 = 3_294_967_296;
-
-fn least(a: u64, b: u64) -> u64
-    ensures { result ≡ min a b }
-{
-    if a < b { a } else { b }
-}
-
-// The end of the block that begins at the row at, of so many rows.
-pub fn block_end(at: usize, rows: usize) -> usize
-    requires { at ≤ rows }
-    ensures { result ≡ min (at + 65536) rows }
-{
-    if rows - at < 0x1_0000 {
-        return rows;
-    }
-    at + 0x1_0000
-}
-
-// r and one row more, with no carry.
-pub fn add(r: Run, high: u32, low: u32, nanos: u32) -> Run
-    requires { Short r }
-    ensures { result ≡ record { high = r.high + high; low = r.low + low; nanos = r.nanos + nanos; bad = bit_or r.bad (nanos + 3294967296) } }
-{
-    let n = nanos as u64;
-    Run {
-        high: r.high + high as u64,
-        low: r.low + low as u64,
-        nanos: r.nanos + n,
-        bad: r.bad | (n + SHORT),
+    // With one row more.
+    pub fn add(self, secs: u64, nanos: u32) -> Block
+        requires { Short self }
+        ensures { (ds : List Duration) → length ds < 65536 → Sums ds self → Sums (ds ++ record { secs = secs; nanos = nanos } ∷ []) result }
+    {
+        Block {
+            secs: self.secs.wrapping_add(secs),
+            high: self.high + (secs >> 32),
+            nanos: self.nanos + nanos as u64,
+            largest: self.largest.max(nanos),
+        }
     }
 }
 
-// t and b, carried, and held at 2^64 seconds.
-pub fn join(t: Run, b: Run) -> Run
-    requires { Carried t × Short b }
-    ensures { Joined t b result }
-{
-    let nanos = t.nanos + b.nanos;
-    let low = t.low + b.low + nanos / 1_000_000_000;
-    let high = least(t.high + b.high + low / HALF, HALF);
-    Run {
-        high,
-        low: low % HALF,
-        nanos: nanos % 1_000_000_000,
-        bad: t.bad | b.bad,
-    }
+// The total of all blocks so far, carried, and whether each row is a duration.
+#[derive(Clone, Copy)]
+pub struct Total {
+    secs: u128,
+    nanos: u32,
+    valid: bool,
 }
 
-// The answer of a whole sum: a bad row comes before an overflow.
-pub fn answer(r: Run) -> SumAnswer
-    requires { Carried r }
-    ensures { result ≡ answer_of r }
-{
-    if HALF <= r.bad {
-        return SumAnswer::Refused(Refusal::BadRow);
+impl Total {
+    // The total of no rows.
+    pub const NONE: Total = Total {
+        secs: 0,
+        nanos: 0,
+        valid: true,
+    };
+
+    // With one block more. The sum of the low halves is what the wrapped sum has beyond the high ones.
+    pub fn join(self, block: Block) -> Total
+        requires room { self.secs < 2 ^ 127 }
+        requires short { Short block }
+        ensures { (ds es : List Duration) → Totals ds self → Sums es block → Totals (ds ++ es) result }
+    {
+        let high = (block.high as u128) << 32;
+        let low = block.secs.wrapping_sub(block.high << 32);
+        let nanos = self.nanos as u64 + block.nanos;
+        let carry = nanos / 1_000_000_000;
+        Total {
+            secs: self.secs + high + low as u128 + carry as u128,
+            nanos: (nanos % 1_000_000_000) as u32,
+            valid: self.valid && block.largest < 1_000_000_000,
+        }
     }
-    if HALF <= r.high {
-        return SumAnswer::Refused(Refusal::Overflow);
+
+    // The answer of a whole sum: a bad row comes before an overflow.
+    pub fn answer(self) -> Result<Duration, Refusal>
+        ensures { (ds : List Duration) → Totals ds self → result ≡ sum_answer ds }
+    {
+        if !self.valid {
+            return Err(Refusal::BadRow);
+        }
+        let secs = u64::try_from(self.secs).map_err(|_| Refusal::Overflow)?;
+        Ok(Duration {
+            secs,
+            nanos: self.nanos,
+        })
     }
-    SumAnswer::Is(Duration {
-        secs: r.high * HALF + r.low,
-        nanos: r.nanos as u32,
-    })
 }

@@ -1,14 +1,7 @@
 -- How many characters a text has. Assumes nothing.
-use mathlib.Core.Path.{◌≡◌, refl, sym, ap, ◌∙◌}
-use mathlib.Core.Bool.{Bool, true, false, cond, ◌&&◌}
-use mathlib.Core.List.{List, [], ◌∷◌, ◌++◌}
-use Prim.Native.Nat.{ℕ, zero, suc, ◌+◌, ◌*◌, ◌/◌, ◌%◌, ◌^◌, ◌<◌}
-use native.Mathlib.Nat.{zero-add, suc-add}
-use native.Mathlib.Omega.{arith}
+use Rattle.std.proofs.Common.{◌≡◌, refl, sym, ap, ◌∙◌, Bool, true, false, cond, ◌&&◌, List, [], ◌∷◌, ◌++◌, ℕ, zero, suc, ◌+◌, ◌*◌, ◌/◌, ◌%◌, ◌^◌, ◌<◌, zero-add, suc-add, arith, leb, ltb, length, length-append}
 use borrow.Author.Tests.{lt-leb}
-use lib.Dec.{leb, ltb}
 use lib.Ieee.Nearest.{closest}
-use lib.ListN.{length, length-append}
 use Rattle.laws.specs.Written.{times}
 use Rattle.text.specs.Digits.{ending_digits, width, decimal, pointed, numeral}
 use Rattle.text.specs.Text.{characters, shown}

@@ -1,16 +1,10 @@
 -- Decimal digits: how many, which, and how they are written one by one. Assumes nothing.
-use mathlib.Core.Path.{◌≡◌, refl, sym, ap, ◌∙◌}
-use mathlib.Core.List.{List, [], ◌∷◌, ◌++◌, append_assoc, append-nil}
-use Prim.Native.Nat.{ℕ, zero, suc, ◌+◌, ◌-◌, ◌*◌, ◌/◌, ◌%◌, ◌^◌, ◌≤◌, ◌<◌, suc-le-suc}
-use native.Mathlib.Nat.{not-suc-le-zero, add-suc, add-zero, le_refl, le_trans, lt_of_lt_of_le, pow-suc, one-le-pow, pow-le-pow_right, div-one, div-div-eq-div-mul, mul_comm, mul_assoc, add_comm}
-use native.Mathlib.Numerals.{add-one}
-use native.Mathlib.Omega.{arith}
-use borrow.Author.Tests.{lt-ltb, le-ltb}
-use lib.Dec.{ltb, lit<, lit≤}
-use lib.ListN.{length, take, set, get_or, length-append, replicate-append-replicate}
-use lib.Seq.{take_at, take-take, get_or-take, get_or_at}
-use Rattle.laws.specs.Written.{splice, times, Wrote}
-use Rattle.laws.proofs.Written.{splice_last}
+use Rattle.std.proofs.Common.{◌≡◌, refl, sym, ap, ◌∙◌, List, [], ◌∷◌, ◌++◌, append_assoc, append-nil, ℕ, zero, suc, ◌+◌, ◌-◌, ◌*◌, ◌/◌, ◌%◌, ◌^◌, ◌≤◌, ◌<◌, suc-le-suc, not-suc-le-zero, add-suc, add-zero, le_refl, le_trans, pow-suc, div-one, mul_comm, mul_assoc, add_comm, add-one, arith, lt-ltb, le-ltb, ltb, lit<, length, take, set, get_or, drop_of_length-le, length-append, take_at, take-take, get_or-take}
+use Rattle.std.proofs.Math.ListN.{replicate-append-replicate}
+use Rattle.std.proofs.Math.Nat.{one-le-pow, pow-le-pow_right, div-div-eq-div-mul}
+use Rattle.std.proofs.Math.Seq.{get_or_at}
+use Rattle.laws.specs.Written.{splice, times}
+use Rattle.laws.proofs.Written.{splice_is, splice_last}
 use Rattle.text.specs.Digits.{ending_digits, width, decimal}
 use Rattle.text.proofs.Leasts.{least_is, least_under}
 
@@ -26,32 +20,37 @@ length_digits zero n = refl
 length_digits (suc k) n = length-append (ending_digits k (n / 10)) ((48 + n % 10) ∷ []) ∙ (λ i. length_digits k (n / 10) i + 1) ∙ add-one k
 
 -- ---- a loop that writes digits from the last: to write the digits that are left gives what is wanted
-pub digit_last : (xs : List ℕ) (at k n : ℕ) → splice (set xs (at + k) (48 + n % 10)) at (ending_digits k (n / 10)) ≡ splice xs at (ending_digits (suc k) n)
+pub digit_last : (xs : List ℕ) (k n : ℕ) → splice (set xs k (48 + n % 10)) 0 (ending_digits k (n / 10)) ≡ splice xs 0 (ending_digits (suc k) n)
 unfolding ending_digits
-digit_last xs at k n = (λ i. splice (set xs (at + sym (length_digits k (n / 10)) i) (48 + n % 10)) at (ending_digits k (n / 10))) ∙ splice_last xs at (ending_digits k (n / 10)) (48 + n % 10)
+digit_last xs k n =
+    let e : 0 + length (ending_digits k (n / 10)) ≡ k = omega (arith, length_digits k (n / 10)) in
+    (λ i. splice (set xs (sym e i) (48 + n % 10)) 0 (ending_digits k (n / 10))) ∙ splice_last xs 0 (ending_digits k (n / 10)) (48 + n % 10)
 
-pub digit-pair : (xs : List ℕ) (at k n : ℕ) → 1 < k → splice (set (set xs (at + (k - 2) + 1) (48 + n % 100 % 10)) (at + (k - 2)) (48 + n % 100 / 10)) at (ending_digits (k - 2) (n / 100)) ≡ splice xs at (ending_digits k n)
-digit-pair xs at k n h =
-    let j : ℕ = k - 2 in
-    let e : at + j + 1 ≡ at + suc j = omega arith in
-    let f : k ≡ suc (suc j) = omega arith in
+pub digit_pair : (xs : List ℕ) (j n : ℕ) → splice (set (set xs (j + 1) (48 + n % 100 % 10)) j (48 + n % 100 / 10)) 0 (ending_digits j (n / 100)) ≡ splice xs 0 (ending_digits (j + 2) n)
+digit_pair xs j n =
+    let e : j + 1 ≡ suc j = omega arith in
+    let f : suc (suc j) ≡ j + 2 = omega arith in
     let last : n % 100 % 10 ≡ n % 10 = omega arith in
     let tens : n % 100 / 10 ≡ n / 10 % 10 = omega arith in
     let rest : n / 100 ≡ n / 10 / 10 = omega arith in
-    (λ i. splice (set (set xs (e i) (48 + last i)) (at + j) (48 + tens i)) at (ending_digits j (rest i)))
-    ∙ digit_last (set xs (at + suc j) (48 + n % 10)) at j (n / 10)
-    ∙ digit_last xs at (suc j) n
-    ∙ ap (λ (z : ℕ). splice xs at (ending_digits z n)) (sym f)
+    (λ i. splice (set (set xs (e i) (48 + last i)) j (48 + tens i)) 0 (ending_digits j (rest i)))
+    ∙ digit_last (set xs (suc j) (48 + n % 10)) j (n / 10)
+    ∙ digit_last xs (suc j) n
+    ∙ ap (λ (z : ℕ). splice xs 0 (ending_digits z n)) f
 
-pub digit_one : (xs : List ℕ) (at n : ℕ) → splice (set xs at (48 + n % 10)) at (ending_digits 0 (n / 10)) ≡ splice xs at (ending_digits 1 n)
-digit_one xs at n = let z : at + 0 ≡ at = add-zero at in rw z at (digit_last xs at 0 n)
-
-pub all_digits : {xs zs : List ℕ} {at i : ℕ} (k n m : ℕ) → i ≤ 0 → splice zs at (ending_digits i m) ≡ splice xs at (ending_digits k n) → Wrote xs zs at (at + k) (ending_digits k n)
+pub one_left : (xs : List ℕ) (n : ℕ) {k : ℕ} → k ≡ 1 → set xs 0 (48 + n % 10) ≡ splice xs 0 (ending_digits k n)
 unfolding ending_digits splice
-all_digits {i = i} k n m h e = record {
-  next = omega (arith, length_digits k n);
-  bytes = let z : i ≡ 0 = omega arith in rw z at e;
-}
+one_left xs n e = rw e (digit_last xs 0 n)
+
+pub none_left : (xs : List ℕ) (n : ℕ) {k : ℕ} → k ≡ 0 → xs ≡ splice xs 0 (ending_digits k n)
+unfolding ending_digits splice
+none_left xs n e = rw e
+
+-- where as many digits as there are bytes are wanted, nothing of the list is left
+pub all_digits : (xs : List ℕ) {k : ℕ} (n : ℕ) → k ≡ length xs → splice xs 0 (ending_digits k n) ≡ ending_digits k n
+all_digits xs {k} n e =
+    let len : 0 + length (ending_digits k n) ≡ length xs = omega (arith, length_digits k n) in
+    splice_is xs 0 (ending_digits k n) (omega arith) ∙ ap (λ (l : List ℕ). ending_digits k n ++ l) (drop_of_length-le xs (omega arith)) ∙ append-nil (ending_digits k n)
 
 -- ---- how many digits a number has
 pub index_lt : (j : ℕ) → j < 10 ^ j
@@ -69,17 +68,17 @@ pub width_one : (n : ℕ) → n < 10 → 1 ≡ width n
 unfolding width
 width_one n h = ap suc (sym (least_is _ n 0 (omega arith) (lt-ltb n 10 h) (λ (i : ℕ) (k : i < 0). absurd (not-suc-le-zero k))))
 
+-- as a logarithm gives it
+pub width_log : (n j : ℕ) → n < 10 * 10 ^ j → 10 ^ j ≤ n → j + 1 ≡ width n
+width_log n j h l = add-one j ∙ width_is n j (omega (arith, pow-suc 10 j)) l
+
 pub width_le : (n k : ℕ) → n < 10 ^ suc k → width n ≤ suc k
 unfolding width
 width_le n k h = suc-le-suc (least_under (λ (j : ℕ). ltb n (10 ^ suc j)) n k (lt-ltb n (10 ^ suc k) h))
 
--- a word has at most twenty
-pub word_width : (n : ℕ) → n < 2 ^ 64 → width n ≤ 20
-word_width n h = width_le n 19 (lt_of_lt_of_le h (lit≤ tt))
-
-pub length-decimal : (n : ℕ) → length (decimal n) ≡ width n
+pub length_decimal : (n : ℕ) → length (decimal n) ≡ width n
 unfolding decimal
-length-decimal n = length_digits (width n) n
+length_decimal n = length_digits (width n) n
 
 -- ---- the first and the last of a number's digits
 pub digits_split : (a b n : ℕ) → ending_digits (a + b) n ≡ ending_digits a (n / 10 ^ b) ++ ending_digits b n
@@ -118,13 +117,14 @@ digits_low (suc q) n m =
     rw (d, r, digits_low q n (m / 10))
 
 -- a number in two parts
-pub two_parts : (n k m : ℕ) → 10 ≤ k → m ≡ n % 10 ^ 10 → ending_digits (k - 10) (n / 10 ^ 10) ++ ending_digits 10 m ≡ ending_digits k n
-two_parts n k m h e =
-    let f : k - 10 + 10 ≡ k = omega arith in
-    let g : n / 10 ^ 10 * 10 ^ 10 + m ≡ n = omega arith in
-    ap (λ (l : List ℕ). ending_digits (k - 10) (n / 10 ^ 10) ++ l) (sym (digits_low 10 (n / 10 ^ 10) m) ∙ ap (ending_digits 10) g)
+pub two_parts : (n k : ℕ) {a b : ℕ} {ys zs : List ℕ} → 10 ≤ k → a ≡ k - 10 → b ≡ 10 → ys ≡ ending_digits a (n / 10 ^ 10) → zs ≡ ending_digits b (n % 10 ^ 10) → ys ++ zs ≡ ending_digits k n
+two_parts n k h e f y z =
+    let g : k - 10 + 10 ≡ k = omega arith in
+    let w : n / 10 ^ 10 * 10 ^ 10 + n % 10 ^ 10 ≡ n = omega arith in
+    (λ i. (y ∙ ap (λ (j : ℕ). ending_digits j (n / 10 ^ 10)) e) i ++ (z ∙ ap (λ (j : ℕ). ending_digits j (n % 10 ^ 10)) f) i)
+    ∙ ap (λ (l : List ℕ). ending_digits (k - 10) (n / 10 ^ 10) ++ l) (sym (digits_low 10 (n / 10 ^ 10) (n % 10 ^ 10)) ∙ ap (ending_digits 10) w)
     ∙ sym (digits_split (k - 10) 10 n)
-    ∙ ap (λ (z : ℕ). ending_digits z n) f
+    ∙ ap (λ (z : ℕ). ending_digits z n) g
 
 -- a multiple of 10 ^ b ends in b zeros
 pub digits-zeros : (a b y : ℕ) → ending_digits (a + b) (y * 10 ^ b) ≡ ending_digits a y ++ times b 48

@@ -1,19 +1,10 @@
 -- Without a precision and a width a text has one value: it is taken apart into its digits and its suffix. Assumes nothing.
-use mathlib.Core.Path.{◌≡◌, refl, sym, ap, ◌∙◌}
-use mathlib.Core.Bool.{Bool, cond}
-use mathlib.Core.List.{List, [], ◌∷◌, ◌++◌, append_assoc, append-nil}
-use Prim.Native.Nat.{ℕ, zero, suc, ◌+◌, ◌-◌, ◌*◌, ◌/◌, ◌%◌, ◌^◌, ◌<◌}
-use native.Mathlib.Nat.{add-zero, div-add-mod', eq_of_mul-eq-mul_right}
-use native.Mathlib.Omega.{arith}
-use borrow.Author.Tests.{le-leb}
-use lib.Arith.{le-zero}
-use lib.Dec.{leb, eqb}
+use Rattle.std.proofs.Common.{Option, None, ◌≡◌, refl, sym, ap, ◌∙◌, Bool, cond, List, [], ◌∷◌, ◌++◌, append_assoc, append-nil, ℕ, zero, suc, ◌+◌, ◌-◌, ◌*◌, ◌/◌, ◌%◌, ◌^◌, ◌<◌, add-zero, div-add-mod', arith, le-leb, leb, eqb, length, drop}
+use Rattle.std.proofs.Math.Arith.{le-zero}
+use Rattle.std.proofs.Math.Nat.{eq_of_mul-eq-mul_right}
 use lib.Ieee.Nearest.{closest}
-use lib.ListN.{length, drop}
 use Rattle.laws.specs.Written.{times}
 use Rattle.laws.proofs.Closest.{at_lt}
-use Rattle.text.specs.declared.Count.{Count}
-use Rattle.text.specs.declared.Count.TheVariants.{Unset}
 use Rattle.text.specs.declared.Options.{Options}
 use Rattle.text.specs.declared.unit.Unit.{Unit}
 use Rattle.text.specs.declared.unit.Unit.TheVariants.{Seconds, Millis, Micros, Nanos}
@@ -138,12 +129,12 @@ places n = (measure (unit_of n)).places
 abbrev exactly : ℕ → List ℕ
 exactly n = shown (places n) n (exact_places (places n) n)
 
-bare : (n : ℕ) (o : Options) → o.precision ≡ Unset → o.width ≡ Unset → text n o ≡ times o.plus 43 ++ (exactly n ++ suffix_of (unit_of n))
+bare : (n : ℕ) (o : Options) → o.precision ≡ None → o.width ≡ None → text n o ≡ times o.plus 43 ++ (exactly n ++ suffix_of (unit_of n))
 unfolding text lacking plain plain_in places_of
 bare n o P W =
-    ap (λ (c : Count). padded (lacking c (characters (plain n o))) o.alignment o.fill (plain n o)) W
+    ap (λ (c : Option ℕ). padded (lacking c (characters (plain n o))) o.alignment o.fill (plain n o)) W
     ∙ no_padding o.alignment o.fill (plain n o)
-    ∙ ap (λ (c : Count). times o.plus 43 ++ shown (places n) n (places_of c (places n) n) ++ suffix_of (unit_of n)) P
+    ∙ ap (λ (c : Option ℕ). times o.plus 43 ++ shown (places n) n (places_of c (places n) n) ++ suffix_of (unit_of n)) P
     ∙ append_assoc (times o.plus 43) (exactly n) (suffix_of (unit_of n))
 
 low-exactly : (n : ℕ) → Passes low (exactly n)

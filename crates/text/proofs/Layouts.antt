@@ -1,28 +1,21 @@
 -- A number laid out: what it shows, and how long it is. Assumes nothing.
-use mathlib.Core.Path.{◌≡◌, refl, sym, ap, ◌∙◌}
-use mathlib.Core.List.{List, ◌++◌, append-nil}
-use Prim.Native.Nat.{ℕ, ◌+◌, ◌-◌, ◌*◌, ◌/◌, ◌%◌, ◌^◌, ◌≤◌, ◌<◌, compare}
-use native.Mathlib.Nat.{mul_comm, mul_assoc, mul-one, add-zero, div-one, mod-one, div-eq_of_lt, mul-div-mul_right, mul-add-mod_self_right, add-mul}
-use native.Mathlib.Omega.{arith}
-use lib.Dec.{lit<, lit≤, eqb}
+use Rattle.std.proofs.Common.{◌≡◌, refl, sym, ap, ◌∙◌, ℕ, ◌+◌, ◌-◌, ◌*◌, ◌/◌, ◌%◌, ◌^◌, ◌≤◌, eqb, List, ◌++◌, take, append-nil, lit<, arith, mul_comm, mul_assoc, mul-one, add-zero, div-one, add-mul, take_all}
+use Rattle.std.proofs.Math.Nat.{mod-one, div-eq_of_lt, mul-div-mul_right, mul-add-mod_self_right}
+use Prim.Native.Nat.{compare}
+use Rattle.std.specs.Int.{from_bool}
 use lib.Ieee.{nearest}
 use lib.Ieee.Nearest.{closest, closest_same}
-use lib.ListN.{take}
-use lib.Seq.{take_all}
 use Rattle.laws.specs.Written.{times}
-use Rattle.text.specs.declared.Count.{Count}
-use Rattle.text.specs.declared.Count.TheVariants.{Unset, Set}
+use Rattle.text.specs.declared.unit.Amount.{Amount}
 use Rattle.text.specs.declared.fraction.Fraction.{Fraction}
 use Rattle.text.specs.declared.round.Rounded.{Rounded}
-use Rattle.text.specs.declared.number.Number.{Number}
-use Rattle.text.specs.Digits.{least, ending_digits, width, decimal, pointed, numeral}
-use Rattle.text.specs.Options.{limit}
-use Rattle.text.specs.Text.{exact_places, places_of, shown}
-use Rattle.text.specs.Parts.{fraction_digits, nearest_to, Rounds, laid, Whole, Laid}
+use Rattle.text.specs.Digits.{least, ending_digits, decimal, pointed, numeral}
+use Rattle.text.specs.Text.{exact_places, shown}
+use Rattle.text.specs.Parts.{billionths, IsFraction, nearest_to, Rounds, laid_out}
 use Rattle.text.proofs.Leasts.{least_le}
-use Rattle.text.proofs.Decimals.{ten_pos, length_digits, digits_low, digits-zeros}
+use Rattle.text.proofs.Decimals.{ten_pos, length_digits, digits_low, digits-take, digits-zeros}
 use Rattle.text.proofs.Places.{tens, exact_from}
-use Rattle.text.proofs.Rounding.{kept, kept-lt, whole_of, down, its_digits, its_count, its_first}
+use Rattle.text.proofs.Rounding.{kept, kept-lt, whole_of, down}
 
 pub places_le : (k n : ℕ) → exact_places k n ≤ k
 unfolding exact_places
@@ -48,90 +41,72 @@ places-low n x = λ i. least (λ (p : ℕ). eqb (same p i) 0) 9
         ∙ ap (λ (z : ℕ). z % 10 ^ 9) (sym (add-mul (n * 10 ^ 9) x (10 ^ p)))
 
 -- a number whose digits and whole part are those of the rounded value shows it
-shows : (n x q w s v : ℕ) (d : List ℕ) → q ≤ 9 → w + s ≡ nearest_to q n x / 10 ^ q → take q d ≡ ending_digits q (nearest_to q n x)
-    → laid (record { whole = w; width = v; past = s; fraction = record { digits = d; count = q }; zeros = 0 }) ≡ shown 9 (n * 10 ^ 9 + x) q
-unfolding laid shown numeral times
-shows n x q w s v d h e f =
-    (λ i. decimal (e i) ++ pointed (append-nil (f i) i)) ∙ ap (λ (m : ℕ). decimal (m / 10 ^ q) ++ pointed (ending_digits q m)) (sym (shown_nearest q n x h))
+shows : (n x q w : ℕ) (f : Fraction) → q ≤ 9 → w ≡ nearest_to q n x / 10 ^ q → f.count ≡ q → take q f.digits ≡ ending_digits q (nearest_to q n x) → laid_out w f 0 ≡ shown 9 (n * 10 ^ 9 + x) q
+unfolding laid_out shown numeral times
+shows n x q w f h e c d =
+    (λ i. decimal (e i) ++ pointed (append-nil ((ap (λ (k : ℕ). take k f.digits) c ∙ d) i) i)) ∙ ap (λ (m : ℕ). decimal (m / 10 ^ q) ++ pointed (ending_digits q m)) (sym (shown_nearest q n x h))
 
-pub no_past : (n : ℕ) → Whole n 0
-no_past n z = absurd (z refl)
+module _ (a : Amount) {f : Fraction} (s : IsFraction a.part f) where
+  -- all digits
+  pub exactly_is : laid_out a.whole f 0 ≡ shown 9 (billionths a) (exact_places 9 (billionths a))
+  exactly_is = shows n x q n f f.used whole refl digits ∙ ap (shown 9 (billionths a)) (s.count ∙ places-low n x)
+    where
+      n : ℕ
+      n = a.whole
 
-pub all_past : {n past : ℕ} → n ≡ 2 ^ 64 - 1 → past ≤ 1 → Whole n past
-all_past e h z = (e, omega (arith, z))
+      x : ℕ
+      x = a.part
 
--- all digits
-pub exactly_is : (n x : ℕ) {v : ℕ} {f : Fraction} → x < 10 ^ 9 → v ≡ width n → f ≡ fraction_digits x
-    → Laid (shown 9 (n * 10 ^ 9 + x) (exact_places 9 (n * 10 ^ 9 + x))) (record { whole = n; width = v; past = 0; fraction = f; zeros = 0 })
-exactly_is n x {v} {f} s g e = record {
-  bytes = shows n x f.count n 0 v f.digits le whole digits ∙ ap (shown 9 (n * 10 ^ 9 + x)) (its_count x e ∙ places-low n x);
-  sound = record { used = le; zeros = lit≤ tt; past = no_past _; wide = g };
-}
-  where
-    q : ℕ
-    q = f.count
+      q : ℕ
+      q = f.count
 
-    le : f.count ≤ 9
-    le = omega (arith, its_count x e, places_le 9 x)
+      none : x % 10 ^ (9 - q) ≡ 0
+      none = exact_from x q f.used (omega (arith, s.count))
 
-    none : x % 10 ^ (9 - q) ≡ 0
-    none = exact_from x q le (omega (arith, its_count x e))
+      same : kept n x q ≡ nearest_to q n x
+      same = sym (add-zero (kept n x q)) ∙ down n x q f.used (omega (arith, none, ten_pos (9 - q)))
 
-    same : kept n x q ≡ nearest_to q n x
-    same = sym (add-zero (kept n x q)) ∙ down n x q le (omega (arith, none, ten_pos (9 - q)))
+      whole : n ≡ nearest_to q n x / 10 ^ q
+      whole = sym (ap (λ (z : ℕ). z / 10 ^ q) (sym same) ∙ whole_of n (x / 10 ^ (9 - q)) q ∙ ap (λ (z : ℕ). n + z) (div-eq_of_lt (kept-lt x q f.used a.below_one)) ∙ add-zero n)
 
-    whole : n + 0 ≡ nearest_to q n x / 10 ^ q
-    whole = sym (ap (λ (z : ℕ). z / 10 ^ q) (sym same) ∙ whole_of n (x / 10 ^ (9 - q)) q ∙ ap (λ (z : ℕ). n + z) (div-eq_of_lt (kept-lt x q le s)))
+      digits : take q f.digits ≡ ending_digits q (nearest_to q n x)
+      digits =
+          (let e : 9 - q + q ≡ 9 = omega (arith, f.used) in ap (take q) s.digits ∙ rw e at (digits-take (9 - q) q x))
+          ∙ sym (digits_low q n (x / 10 ^ (9 - q)))
+          ∙ ap (ending_digits q) same
 
-    digits : take q f.digits ≡ ending_digits q (nearest_to q n x)
-    digits = its_first x e q le ∙ sym (digits_low q n (x / 10 ^ (9 - q))) ∙ ap (ending_digits q) same
+  -- nine and more: zeros follow
+  pub padded_is : (p : ℕ) (g : Fraction) → g.digits ≡ f.digits → g.count ≡ 9 → 9 ≤ p → laid_out a.whole g (p - 9) ≡ shown 9 (billionths a) p
+  unfolding laid_out shown numeral
+  padded_is p g e c h = (λ i. decimal (whole i) ++ pointed (digits i)) ∙ ap (λ (m : ℕ). decimal (m / 10 ^ p) ++ pointed (ending_digits p m)) (sym exact)
+    where
+      j : ℕ
+      j = p - 9
 
--- fewer than nine: s is what the carry takes past the largest word
-pub rounded_is : (n x q w s : ℕ) {v : ℕ} {r : Rounded} → q ≤ 9 → Rounds n x q r → w + s ≡ n + r.carry → Whole w s → v ≡ width w
-    → Laid (shown 9 (n * 10 ^ 9 + x) q) (record { whole = w; width = v; past = s; fraction = r.fraction; zeros = 0 })
-rounded_is n x q w s {v} {r} h o e p g = record {
-  bytes = ap (λ (c : ℕ). laid (record { whole = w; width = v; past = s; fraction = record { digits = r.fraction.digits; count = c }; zeros = 0 })) o.count ∙ shows n x q w s v r.fraction.digits h (e ∙ o.whole) o.digits;
-  sound = record { used = omega (arith, o.count); zeros = lit≤ tt; past = p; wide = g };
-}
+      n : ℕ
+      n = a.whole
 
--- nine and more: zeros follow
-pub padded_is : (n x p : ℕ) {u : ℕ} {f : Fraction} → x < 10 ^ 9 → u ≡ width n → f ≡ fraction_digits x → 9 ≤ p → p ≤ limit
-    → Laid (shown 9 (n * 10 ^ 9 + x) p) (record { whole = n; width = u; past = 0; fraction = record { digits = f.digits; count = 9 }; zeros = p - 9 })
-unfolding laid shown numeral
-padded_is n x p {u} {f} s g e h l = record {
-  bytes = (λ i. decimal (whole i) ++ pointed (digits i)) ∙ ap (λ (m : ℕ). decimal (m / 10 ^ p) ++ pointed (ending_digits p m)) (sym exact);
-  sound = record { used = lit≤ tt; zeros = omega arith; past = no_past _; wide = g };
-}
-  where
-    j : ℕ
-    j = p - 9
+      v : ℕ
+      v = n * 10 ^ 9 + a.part
 
-    v : ℕ
-    v = n * 10 ^ 9 + x
+      sum : 9 + j ≡ p
+      sum = omega arith
 
-    sum : 9 + j ≡ p
-    sum = omega arith
+      exact : closest (v * 10 ^ p) (10 ^ 9) ≡ v * 10 ^ j
+      exact =
+          closest_same (v * 10 ^ p) (10 ^ 9) (v * 10 ^ j) 1 (lit< tt) (lit< tt)
+          (mul-one (v * 10 ^ p) ∙ ap (λ (z : ℕ). v * z) (tens 9 j p sum ∙ mul_comm (10 ^ 9) (10 ^ j)) ∙ sym (mul_assoc v (10 ^ j) (10 ^ 9)))
+          ∙ (λ i. nearest (div-one (v * 10 ^ j) i) (compare (mod-one (v * 10 ^ j) i * 2) 1))
 
-    exact : closest (v * 10 ^ p) (10 ^ 9) ≡ v * 10 ^ j
-    exact =
-        closest_same (v * 10 ^ p) (10 ^ 9) (v * 10 ^ j) 1 (lit< tt) (lit< tt)
-        (mul-one (v * 10 ^ p) ∙ ap (λ (z : ℕ). v * z) (tens 9 j p sum ∙ mul_comm (10 ^ 9) (10 ^ j)) ∙ sym (mul_assoc v (10 ^ j) (10 ^ 9)))
-        ∙ (λ i. nearest (div-one (v * 10 ^ j) i) (compare (mod-one (v * 10 ^ j) i * 2) 1))
+      whole : n ≡ v * 10 ^ j / 10 ^ p
+      whole = sym (ap (λ (z : ℕ). v * 10 ^ j / z) (tens 9 j p sum) ∙ mul-div-mul_right v (10 ^ 9) (ten_pos j) ∙ whole_of n a.part 9 ∙ ap (λ (z : ℕ). n + z) (div-eq_of_lt a.below_one) ∙ add-zero n)
 
-    whole : n + 0 ≡ v * 10 ^ j / 10 ^ p
-    whole = sym (ap (λ (z : ℕ). v * 10 ^ j / z) (tens 9 j p sum) ∙ mul-div-mul_right v (10 ^ 9) (ten_pos j) ∙ whole_of n x 9 ∙ ap (λ (z : ℕ). n + z) (div-eq_of_lt s))
+      digits : take g.count g.digits ++ times (p - 9) 48 ≡ ending_digits p (v * 10 ^ j)
+      digits =
+          ap (λ (y : List ℕ). y ++ times (p - 9) 48) ((λ i. take (c i) (e i)) ∙ ap (take 9) s.digits ∙ take_all 9 (ending_digits 9 a.part) (omega (arith, length_digits 9 a.part)) ∙ sym (digits_low 9 n a.part))
+          ∙ sym (digits-zeros 9 j v)
+          ∙ ap (λ (k : ℕ). ending_digits k (v * 10 ^ j)) sum
 
-    digits : take 9 f.digits ++ times (p - 9) 48 ≡ ending_digits p (v * 10 ^ j)
-    digits =
-        ap (λ (y : List ℕ). y ++ times (p - 9) 48) (ap (take 9) (its_digits x e) ∙ take_all 9 (ending_digits 9 x) (omega (arith, length_digits 9 x)) ∙ sym (digits_low 9 n x))
-        ∙ sym (digits-zeros 9 j v)
-        ∙ ap (λ (k : ℕ). ending_digits k (v * 10 ^ j)) sum
-
--- ---- as the precision asks
-pub of_unset : {c : Count} (v : ℕ) {n : Number} → c ≡ Unset → Laid (shown 9 v (exact_places 9 v)) n → Laid (shown 9 v (places_of c 9 v)) n
-unfolding places_of
-of_unset v e h = rw e h
-
-pub of-set : {c : Count} (v : ℕ) {p : ℕ} {n : Number} → c ≡ Set p → Laid (shown 9 v p) n → Laid (shown 9 v (places_of c 9 v)) n
-unfolding places_of
-of-set v e h = rw e h
+-- fewer than nine
+pub rounded_is : (a : Amount) (q : ℕ) {r : Rounded} → q ≤ 9 → Rounds a.whole a.part q r → laid_out (a.whole + from_bool r.carry) r.fraction 0 ≡ shown 9 (billionths a) q
+rounded_is a q {r} h o = shows a.whole a.part q (a.whole + from_bool r.carry) r.fraction h o.whole o.count o.digits

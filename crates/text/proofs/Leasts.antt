@@ -1,11 +1,6 @@
 -- The least number with a property: it has it, and none below has. Assumes nothing.
-use mathlib.Core.Path.{◌≡◌, refl, sym, ap}
-use mathlib.Core.Bool.{Bool, true, false, cond}
-use Prim.Native.Nat.{ℕ, zero, suc, ◌≤◌, ◌<◌, zero-le, suc-le-suc}
-use native.Mathlib.Nat.{le_refl, le_of_suc-le-suc, not-suc-le-zero, zero-lt-suc}
-use native.Mathlib.Omega.{arith}
-use mathlib.Core.Logic.{inl, inr}
-use lib.Arith.{le-zero}
+use Rattle.std.proofs.Common.{◌≡◌, refl, sym, ap, Bool, true, false, cond, ℕ, zero, suc, ◌≤◌, ◌<◌, zero-le, suc-le-suc, le_refl, le_of_suc-le-suc, not-suc-le-zero, zero-lt-suc, arith, inl, inr}
+use Rattle.std.proofs.Math.Arith.{le-zero}
 use Rattle.laws.proofs.Closest.{le_or_lt}
 use Rattle.text.specs.Digits.{least}
 

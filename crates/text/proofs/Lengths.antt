@@ -1,89 +1,58 @@
 -- How many bytes a number has, and where they go. Assumes nothing.
-use mathlib.Core.Path.{◌≡◌, refl, sym, ap, ◌∙◌}
-use mathlib.Core.Logic.{inl, inr}
-use mathlib.Core.List.{List, [], ◌∷◌, ◌++◌}
-use Prim.Native.Nat.{ℕ, ◌+◌, ◌-◌, ◌^◌, ◌≤◌, ◌<◌}
-use native.Mathlib.Nat.{not-suc-le-zero, add-zero, eq-zero-or-pos}
-use native.Mathlib.Omega.{arith}
-use lib.Dec.{lit<, lit≤}
-use lib.ListN.{length, take, length-append}
-use lib.Seq.{length-take-le}
+use Rattle.std.proofs.Common.{◌≡◌, refl, sym, ap, ◌∙◌, ℕ, ◌+◌, ◌^◌, ◌≤◌, ◌<◌, List, [], ◌∷◌, length, take, length-append, lit<, lit≤, arith, not-suc-le-zero, lt_of_le_of_lt, length-take-le}
 use Rattle.laws.specs.Written.{times}
 use Rattle.laws.proofs.Written.{length-times}
+use Rattle.text.specs.declared.fraction.Fraction.{Fraction}
 use Rattle.text.specs.declared.number.Number.{Number}
 use Rattle.text.specs.Digits.{ending_digits, width, decimal, pointed}
-use Rattle.text.specs.Parts.{laid, Whole}
-use Rattle.text.proofs.Decimals.{length-decimal, width_is}
+use Rattle.text.specs.Parts.{places, laid_out}
+use Rattle.text.proofs.Decimals.{length_decimal, width_is, width_le}
 
--- the largest word
-pub word-most : {n : ℕ} → n ≡ 2 ^ 64 - 1 → 20 ≡ width n
-word-most e = width_is (2 ^ 64 - 1) 19 (lit< tt) (lit≤ tt) ∙ ap width (sym e)
+-- ---- 2 ^ 64, the one number past the largest word that is written
+pub past_width : {n : ℕ} → n ≡ 2 ^ 64 → 20 ≡ width n
+past_width e = width_is (2 ^ 64) 19 (lit< tt) (lit≤ tt) ∙ ap width (sym e)
 
--- what rounding carries past the largest word adds no digit
-pub width-past : (n past : ℕ) → Whole n past → width (n + past) ≡ width n
-width-past n past w = elim (eq-zero-or-pos past) [
-  | inl z ↦ ap width (ap (λ (y : ℕ). n + y) z ∙ add-zero n)
-  | inr z ↦ let e = w (λ (y : past ≡ 0). omega arith) in (λ i. width (e.0 i + e.1 i)) ∙ sym (width_is (2 ^ 64) 19 (lit< tt) (lit≤ tt)) ∙ word-most e.0
-]
-
-pub no_more : (n : ℕ) {past : ℕ} → past ≡ 0 → length (decimal (n + past)) ≡ width n
-no_more n {past} z = length-decimal (n + past) ∙ ap width (ap (λ (y : ℕ). n + y) z ∙ add-zero n)
-
--- the two ways to write a whole part
-pub word-decimal : (n : ℕ) {past k : ℕ} → past ≡ 0 → k ≡ width n → ending_digits k n ≡ decimal (n + past)
-unfolding decimal
-word-decimal n z e = ap (λ (j : ℕ). ending_digits j n) e ∙ ap decimal (sym (ap (λ (y : ℕ). n + y) z ∙ add-zero n))
-
-pub past-decimal : {n past : ℕ} → (past ≡ 0 → ⊥) → Whole n past
-    → 49 ∷ 56 ∷ 52 ∷ 52 ∷ 54 ∷ 55 ∷ 52 ∷ 52 ∷ 48 ∷ 55 ∷ 51 ∷ 55 ∷ 48 ∷ 57 ∷ 53 ∷ 53 ∷ 49 ∷ 54 ∷ 49 ∷ 54 ∷ [] ≡ decimal (n + past)
+pub past_decimal : {n : ℕ} → n ≡ 2 ^ 64
+    → 49 ∷ 56 ∷ 52 ∷ 52 ∷ 54 ∷ 55 ∷ 52 ∷ 52 ∷ 48 ∷ 55 ∷ 51 ∷ 55 ∷ 48 ∷ 57 ∷ 53 ∷ 53 ∷ 49 ∷ 54 ∷ 49 ∷ 54 ∷ [] ≡ decimal n
 unfolding decimal ending_digits
-past-decimal z w = let e = w z in ap (λ (k : ℕ). ending_digits k (2 ^ 64)) (width_is (2 ^ 64) 19 (lit< tt) (lit≤ tt)) ∙ (λ i. decimal (sym e.0 i + sym e.1 i))
+past_decimal e = ap (λ (k : ℕ). ending_digits k (2 ^ 64)) (past_width refl) ∙ ap decimal (sym e)
+
+pub word_decimal : (n : ℕ) {k : ℕ} → k ≡ width n → ending_digits k n ≡ decimal n
+unfolding decimal
+word_decimal n e = ap (λ (j : ℕ). ending_digits j n) e
 
 -- ---- a point stands before digits only
-pub point_none : (l : List ℕ) → length l ≡ 0 → pointed l ≡ []
+pub point_none : (l : List ℕ) → length l ≡ 0 → [] ≡ pointed l
 unfolding pointed
 point_none [] h = refl
 point_none (d ∷ ds) h = absurd (omega arith)
 
-pub point_some : (l : List ℕ) → 0 < length l → pointed l ≡ times 1 46 ++ l
-unfolding pointed times
+pub point_some : (l : List ℕ) → 0 < length l → 46 ∷ l ≡ pointed l
+unfolding pointed
 point_some [] h = absurd (not-suc-le-zero h)
 point_some (d ∷ ds) h = refl
 
-pub length-places : (d : List ℕ) (c z : ℕ) → c ≤ length d → length (take c d ++ times z 48) ≡ c + z
-length-places d c z h = length-append (take c d) (times z 48) ∙ (λ i. length-take-le c d h i + length-times z 48 i)
+-- ---- the length of a number that is laid out
+module _ (f : Fraction) (zeros : ℕ) (nine : length f.digits ≡ 9) where
+  length-places : length (places f zeros) ≡ f.count + zeros
+  length-places = length-append (take f.count f.digits) (times zeros 48) ∙ (λ i. length-take-le f.count f.digits (omega (arith, f.used, nine)) i + length-times zeros 48 i)
 
-module _ (d : List ℕ) (c z : ℕ) (h : c ≤ length d) where
-  abbrev l : List ℕ
-  l = take c d ++ times z 48
+  pub no_places : f.count + zeros ≡ 0 → [] ≡ pointed (places f zeros)
+  no_places e = point_none (places f zeros) (length-places ∙ e)
 
-  pub no_places : c + z ≡ 0 → pointed l ≡ []
-  no_places e = point_none l (length-places d c z h ∙ e)
+  pub some_places : (f.count + zeros ≡ 0 → ⊥) → 46 ∷ places f zeros ≡ pointed (places f zeros)
+  some_places e = point_some (places f zeros) (omega (arith, length-places, e))
 
-  pub some_places : (c + z ≡ 0 → ⊥) → pointed l ≡ times 1 46 ++ l
-  some_places e = point_some l (omega (arith, length-places d c z h, e))
+  pub length_none : f.count + zeros ≡ 0 → length (pointed (places f zeros)) ≡ 0
+  length_none e = sym (ap length (no_places e))
 
-  pub length_some : (c + z ≡ 0 → ⊥) → length (pointed l) ≡ 1 + (c + z)
-  length_some e = ap length (some_places e) ∙ length-append (times 1 46) l ∙ (λ i. length-times 1 46 i + length-places d c z h i)
+  pub length_some : (f.count + zeros ≡ 0 → ⊥) → length (pointed (places f zeros)) ≡ 1 + (f.count + zeros)
+  length_some e = omega (arith, ap length (sym (some_places e)), length-places)
 
--- a number is its whole part, then its places
-pub pieces : (n : Number) → decimal (n.whole + n.past) ++ pointed (take n.fraction.count n.fraction.digits ++ times n.zeros 48) ≡ laid n
-unfolding laid
-pieces n = refl
+pub length_laid : (n : ℕ) (f : Fraction) (zeros : ℕ) → length (laid_out n f zeros) ≡ width n + length (pointed (places f zeros))
+unfolding laid_out
+length_laid n f zeros = length-append (decimal n) (pointed (places f zeros)) ∙ ap (λ (z : ℕ). z + length (pointed (places f zeros))) (length_decimal n)
 
-pub sizes : (n : Number) → length (laid n) ≡ length (decimal (n.whole + n.past)) + length (pointed (take n.fraction.count n.fraction.digits ++ times n.zeros 48))
-sizes n = ap length (sym (pieces n)) ∙ length-append (decimal (n.whole + n.past)) (pointed (take n.fraction.count n.fraction.digits ++ times n.zeros 48))
-
--- the length of a number that is laid out
-module _ (n : Number) (w : ℕ) (h : n.fraction.count ≤ length n.fraction.digits) (p : Whole n.whole n.past) (e : w ≡ width n.whole) where
-  abbrev tail : List ℕ
-  tail = pointed (take n.fraction.count n.fraction.digits ++ times n.zeros 48)
-
-  sum : length (laid n) ≡ w + length tail
-  sum = sizes n ∙ ap (λ (z : ℕ). z + length tail) (length-decimal (n.whole + n.past) ∙ width-past n.whole n.past p ∙ sym e)
-
-  pub length_whole : n.fraction.count + n.zeros ≡ 0 → w ≡ length (laid n)
-  length_whole z = sym (sum ∙ ap (λ (y : List ℕ). w + length y) (no_places n.fraction.digits n.fraction.count n.zeros h z) ∙ add-zero w)
-
-  pub length-pointed : (n.fraction.count + n.zeros ≡ 0 → ⊥) → w + 1 + (n.fraction.count + n.zeros) ≡ length (laid n)
-  length-pointed z = omega (arith, sum, length_some n.fraction.digits n.fraction.count n.zeros h z)
+-- twenty digits are the most
+pub few_digits : (n : Number) → n.digits ≤ 20
+few_digits n = omega (arith, n.measured, width_le n.whole 19 (lt_of_le_of_lt n.one_past (lit< tt)))

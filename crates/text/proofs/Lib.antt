@@ -1,19 +1,19 @@
 -- Laws of the definitions, which the proofs here and in other crates cite.
 pub mod Leasts
 pub mod Decimals
-pub mod Accepts
-pub mod Units
 pub mod Places
 pub mod Rounding
 pub mod Carrying
-pub mod Layouts
 pub mod Scaling
-pub mod Lengths
 pub mod Characters
+pub mod Values
+pub mod Runs
+pub mod Writing
+pub mod Lengths
+pub mod Layouts
+pub mod Accepts
 pub mod Plains
 pub mod Printing
-pub mod Values
 pub mod Longest
-pub mod Runs
 pub mod Distinct
 pub mod Theorems

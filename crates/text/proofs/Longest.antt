@@ -1,20 +1,12 @@
 -- How long a text can be. Assumes nothing.
-use mathlib.Core.Path.{◌≡◌, refl, sym, ap, ◌∙◌}
-use mathlib.Core.Bool.{Bool, true, false, cond}
-use mathlib.Core.List.{List, [], ◌∷◌, ◌++◌}
-use Prim.Native.Nat.{ℕ, suc, ◌+◌, ◌*◌, ◌/◌, ◌%◌, ◌^◌, ◌≤◌, ◌<◌, compare}
-use native.Mathlib.Nat.{le_trans, add-zero, div-div-eq-div-mul, mul-div-mul_right, mul-le-mul_right, lt_of_le_of_lt, add-mul-div_right}
-use native.Mathlib.Omega.{arith}
-use borrow.Author.Tests.{leb-false}
-use lib.Dec.{leb, lit≤, lit<}
+use Rattle.std.proofs.Common.{Option, None, Some, ◌≡◌, refl, sym, ap, ◌∙◌, Bool, true, false, cond, List, [], ◌∷◌, ◌++◌, ℕ, suc, ◌+◌, ◌*◌, ◌/◌, ◌%◌, ◌^◌, ◌≤◌, ◌<◌, le_trans, add-zero, mul-le-mul_right, lt_of_le_of_lt, arith, leb-false, leb, lit≤, lit<, length, length-append}
+use Rattle.std.proofs.Math.Nat.{div-div-eq-div-mul, mul-div-mul_right, add-mul-div_right}
+use Prim.Native.Nat.{compare}
 use lib.Ieee.Fits.{nearest-le}
 use lib.Ieee.Nearest.{closest, div_mono}
-use lib.ListN.{length, length-append}
 use Rattle.duration.specs.Meaning.{most}
 use Rattle.laws.specs.Written.{times}
 use Rattle.laws.proofs.Written.{length-times}
-use Rattle.text.specs.declared.Count.{Count}
-use Rattle.text.specs.declared.Count.TheVariants.{Unset, Set}
 use Rattle.text.specs.declared.Options.{Options}
 use Rattle.text.specs.declared.unit.Unit.{Unit}
 use Rattle.text.specs.declared.unit.Unit.TheVariants.{Seconds, Millis, Micros, Nanos}
@@ -22,7 +14,7 @@ use Rattle.text.specs.Digits.{ending_digits, width, decimal, pointed, numeral}
 use Rattle.text.specs.Options.{limit, within}
 use Rattle.text.specs.Text.{measure, suffix_of, unit_of, places_of, shown, plain_in, plain, characters, lacking, text}
 use Rattle.text.specs.Theorems.{Longest, Reached, Wide}
-use Rattle.text.proofs.Decimals.{ten_pos, length_digits, length-decimal, width_le, width_is}
+use Rattle.text.proofs.Decimals.{ten_pos, length_digits, length_decimal, width_le, width_is}
 use Rattle.text.proofs.Accepts.{Accepted, accepted, within-set}
 use Rattle.text.proofs.Layouts.{places_le}
 use Rattle.text.proofs.Lengths.{point_some}
@@ -55,22 +47,22 @@ length-pointed_le (d ∷ ds) = omega arith
 pub length-shown : (k n p w : ℕ) → n / 10 ^ k + 1 < 10 ^ suc w → length (shown k n p) ≤ suc w + (1 + p)
 unfolding shown numeral
 length-shown k n p w h =
-    omega (arith, length-append (decimal (m k n p / 10 ^ p)) (pointed (ending_digits p (m k n p))), length-decimal (m k n p / 10 ^ p), width_le (m k n p / 10 ^ p) w (lt_of_le_of_lt (whole_le k n p) h), length-pointed_le (ending_digits p (m k n p)), length_digits p (m k n p))
+    omega (arith, length-append (decimal (m k n p / 10 ^ p)) (pointed (ending_digits p (m k n p))), length_decimal (m k n p / 10 ^ p), width_le (m k n p / 10 ^ p) w (lt_of_le_of_lt (whole_le k n p) h), length-pointed_le (ending_digits p (m k n p)), length_digits p (m k n p))
 
 length-shown_is : (k n p : ℕ) → 0 < p → length (shown k n p) ≡ width (m k n p / 10 ^ p) + (1 + p)
 unfolding shown numeral
 length-shown_is k n p h =
     length-append (decimal (m k n p / 10 ^ p)) (pointed (ending_digits p (m k n p)))
-    ∙ (λ i. length-decimal (m k n p / 10 ^ p) i + length-point (ending_digits p (m k n p)) p (length_digits p (m k n p)) h i)
+    ∙ (λ i. length_decimal (m k n p / 10 ^ p) i + length-point (ending_digits p (m k n p)) p (length_digits p (m k n p)) h i)
   where
     length-point : (l : List ℕ) (p : ℕ) → length l ≡ p → 0 < p → length (pointed l) ≡ 1 + p
-    length-point l p e h = ap length (point_some l (omega arith)) ∙ length-append (times 1 46) l ∙ (λ i. length-times 1 46 i + e i)
+    length-point l p e h = omega (arith, ap length (point_some l (omega arith)), e)
 
 -- fraction digits
-pub few_places : (c : Count) (u : Unit) (n : ℕ) → within c ≡ true → places_of c (measure u).places n ≤ limit
+pub few_places : (c : Option ℕ) (u : Unit) (n : ℕ) → within c ≡ true → places_of c (measure u).places n ≤ limit
 unfolding places_of
-few_places Unset u n h = omega (arith, places_le (measure u).places n, places_nine u)
-few_places (Set p) u n h = within-set refl h
+few_places None u n h = omega (arith, places_le (measure u).places n, places_nine u)
+few_places (Some p) u n h = within-set refl h
 
 -- ---- the whole part and the suffix: seconds have twenty digits at most, the other units four
 room : (n : ℕ) → n ≤ most → (d : ℕ) × ((n / 10 ^ (measure (unit_of n)).places + 1 < 10 ^ suc d) × (suc d + length (suffix_of (unit_of n)) ≤ 21))
@@ -116,10 +108,10 @@ one_more Millis = lit≤ tt
 one_more Micros = lit≤ tt
 one_more Nanos = lit≤ tt
 
-filled_le : (c : Count) (b k most : ℕ) → within c ≡ true → b ≤ k + 1 → b ≤ most → limit + 1 ≤ most → b + lacking c k ≤ most
+filled_le : (c : Option ℕ) (b k most : ℕ) → within c ≡ true → b ≤ k + 1 → b ≤ most → limit + 1 ≤ most → b + lacking c k ≤ most
 unfolding lacking
-filled_le Unset b k most h l m e = omega arith
-filled_le (Set w) b k most h l m e = omega (arith, within-set {c = Set w} refl h)
+filled_le None b k most h l m e = omega arith
+filled_le (Some w) b k most h l m e = omega (arith, within-set {c = Some w} refl h)
 
 pub longest : Longest
 unfolding text
@@ -134,11 +126,11 @@ unfolding text lacking
 wide n o w e f =
     let a : Accepted o = accepted o e in
     let k : ℕ = characters (plain n o) in
-    omega (arith, characters-padded (lacking o.width k) o.alignment o.fill (plain n o) (omega (arith, a.high)), ap (λ (c : Count). lacking c k) f)
+    omega (arith, characters-padded (lacking o.width k) o.alignment o.fill (plain n o) (omega (arith, a.high)), ap (λ (c : Option ℕ). lacking c k) f)
 
 -- MAX with a plus sign and all digits that can be asked for
 abbrev fullest : Options
-fullest = record { plus = 1; precision = Set 255; width = Unset; alignment = 0; fill = 0x20 }
+fullest = record { plus = 1; precision = Some 255; width = None; alignment = 0; fill = 0x20 }
 
 all_digits : length (shown 9 most 255) ≡ 276
 all_digits = length-shown_is 9 most 255 (lit< tt) ∙ ap (λ (z : ℕ). z + (1 + 255)) (sym (width_is (m 9 most 255 / 10 ^ 255) 19 (lit< tt) (lit≤ tt)))

@@ -1,16 +1,13 @@
 -- How many fraction digits show a number exactly. Assumes nothing.
-use mathlib.Core.Path.{◌≡◌, sym, ap, ◌∙◌}
-use Prim.Native.Nat.{ℕ, zero, suc, ◌+◌, ◌-◌, ◌*◌, ◌/◌, ◌%◌, ◌^◌, ◌≤◌, ◌<◌}
-use native.Mathlib.Nat.{mul_comm, mul_assoc, mul-div_cancel, mul-mod_left, pow-suc, add-zero, zero-mul}
-use native.Mathlib.Omega.{arith}
-use borrow.Author.Tests.{eq-eqb, ne_eqb, eqb-true, eqb-false}
-use lib.Arith.{mod-mul}
-use lib.Dec.{eqb}
-use lib.Pow.{pow-add}
+use Rattle.std.proofs.Common.{◌≡◌, sym, ap, ◌∙◌, ℕ, zero, suc, ◌+◌, ◌-◌, ◌*◌, ◌/◌, ◌%◌, ◌^◌, ◌≤◌, ◌<◌, mul_comm, mul-div_cancel, pow-suc, add-zero, zero-mul, arith, eq-eqb, ne_eqb, eqb-true, eqb, get_or, length, List, pow-add}
+use Rattle.std.proofs.Math.Arith.{mod-mul}
+use Rattle.std.proofs.Math.Nat.{mul-mod_left, mod-one}
+use borrow.Author.Tests.{eqb-false}
 use Rattle.laws.proofs.Closest.{zero_of}
 use Rattle.text.specs.Text.{exact_places}
 use Rattle.text.proofs.Leasts.{least_is, least_at, least_before}
-use Rattle.text.proofs.Decimals.{ten_pos}
+use Rattle.text.specs.Digits.{ending_digits}
+use Rattle.text.proofs.Decimals.{ten_pos, digit_at, length_digits}
 
 -- ---- remainders of multiples
 pub scaled_mod : (x m c : ℕ) → 0 < m → 0 < c → x * c % (m * c) ≡ x % m * c
@@ -32,13 +29,11 @@ left_over k x p h =
     let e : k - p + p ≡ k = omega arith in
     ap (λ (z : ℕ). x * 10 ^ p % z) (tens (k - p) p k e) ∙ scaled_mod x (10 ^ (k - p)) (10 ^ p) (ten_pos (k - p)) (ten_pos p)
 
--- ---- the zeros at the end of x = rest * 10 ^ (9 - c) are those, where rest ends in another digit
-module _ (x c rest : ℕ) (h : c ≤ 9) (e : x ≡ rest * 10 ^ (9 - c)) where
-  hit : x * 10 ^ c % 10 ^ 9 ≡ 0
-  hit = left_over 9 x c h ∙ ap (λ (z : ℕ). z % 10 ^ (9 - c) * 10 ^ c) e ∙ ap (λ (z : ℕ). z * 10 ^ c) (mul-mod_left rest (10 ^ (9 - c))) ∙ zero-mul (10 ^ c)
-
-  rest_zero : (i : ℕ) → i < c → x * 10 ^ i % 10 ^ 9 ≡ 0 → rest % 10 ≡ 0
-  rest_zero i l z = low_zero rest (10 ^ j) 10 (ten_pos j) (omega arith) (ap (λ (y : ℕ). rest % y) (sym (pow-suc 10 j)) ∙ divides)
+-- ---- c digits of nine are in use where those behind are zeros, and the last of them is none
+module _ (x c : ℕ) (h : c ≤ 9) where
+  -- fewer digits than c do not show x, unless the last of the c is a zero
+  last_zero : (i : ℕ) → i < c → x * 10 ^ i % 10 ^ 9 ≡ 0 → x / 10 ^ (9 - c) % 10 ≡ 0
+  last_zero i l z = low_zero (x / 10 ^ (9 - c)) (10 ^ j) 10 (ten_pos j) (omega arith) (ap (λ (y : ℕ). x / 10 ^ (9 - c) % y) (sym (pow-suc 10 j)) ∙ divides)
     where
       j : ℕ
       j = c - suc i
@@ -49,29 +44,43 @@ module _ (x c rest : ℕ) (h : c ≤ 9) (e : x ≡ rest * 10 ^ (9 - c)) where
       sum : suc j + (9 - c) ≡ 9 - i
       sum = omega arith
 
-      divides : rest % 10 ^ suc j ≡ 0
-      divides =
-          zero_of (rest % 10 ^ suc j) (10 ^ (9 - c)) (ten_pos (9 - c))
-          (sym (scaled_mod rest (10 ^ suc j) (10 ^ (9 - c)) (ten_pos (suc j)) (ten_pos (9 - c)))
-          ∙ ap (λ (y : ℕ). rest * 10 ^ (9 - c) % y) (sym (tens (suc j) (9 - c) (9 - i) sum))
-          ∙ ap (λ (y : ℕ). y % 10 ^ (9 - i)) (sym e)
-          ∙ zero_of (x % 10 ^ (9 - i)) (10 ^ i) (ten_pos i) (sym (left_over 9 x i le) ∙ z))
+      whole : x % 10 ^ (9 - i) ≡ 0
+      whole = zero_of (x % 10 ^ (9 - i)) (10 ^ i) (ten_pos i) (sym (left_over 9 x i le) ∙ z)
 
-  pub used_is : (rest % 10 ≡ 0 → ⊥) → c ≡ exact_places 9 x
-  unfolding exact_places
-  used_is n = sym (least_is _ 9 c h (eq-eqb _ 0 hit) (λ (i : ℕ) (l : i < c). ne_eqb _ 0 (λ (z : x * 10 ^ i % 10 ^ 9 ≡ 0). n (rest_zero i l z))))
+      divides : x / 10 ^ (9 - c) % 10 ^ suc j ≡ 0
+      divides = zero_of (x / 10 ^ (9 - c) % 10 ^ suc j) (10 ^ (9 - c)) (ten_pos (9 - c)) (omega (arith, mod-mul x (ten_pos (suc j)) (ten_pos (9 - c)), ap (λ (y : ℕ). x % y) (sym (tens (suc j) (9 - c) (9 - i) sum)) ∙ whole))
 
--- a turn of the loop that drops them
-pub one_zero : (x c rest : ℕ) → 0 < c → c ≤ 9 → rest % 10 ≡ 0 → x ≡ rest * 10 ^ (9 - c) → x ≡ rest / 10 * 10 ^ (9 - (c - 1))
-one_zero x c rest h k z e =
-    let f : 9 - (c - 1) ≡ suc (9 - c) = omega arith in
-    let r : rest ≡ rest / 10 * 10 = omega arith in
-    e ∙ ap (λ (y : ℕ). y * 10 ^ (9 - c)) r ∙ mul_assoc (rest / 10) 10 (10 ^ (9 - c)) ∙ ap (λ (y : ℕ). rest / 10 * y) (mul_comm 10 (10 ^ (9 - c)) ∙ sym (pow-suc 10 (9 - c)) ∙ ap (λ (y : ℕ). 10 ^ y) (sym f))
+zeros_end : (x j : ℕ) → j ≤ 9 → ((k : ℕ) → 9 - j ≤ k → k < 9 → get_or (ending_digits 9 x) k 0 ≡ 48) → x % 10 ^ j ≡ 0
+zeros_end x zero h f = mod-one x
+zeros_end x (suc j) h f =
+    let e : 8 - (8 - j) ≡ j = omega arith in
+    let low : x % 10 ^ j ≡ 0 = zeros_end x j (omega arith) (λ k a b. f k (omega arith) b) in
+    let digit : 48 + x / 10 ^ j % 10 ≡ 48 = rw e at (sym (digit_at x (8 - j) (omega arith)) ∙ f (8 - j) (omega arith) (omega arith)) in
+    let ten : 0 < 10 = omega arith in
+    let none : x / 10 ^ j % 10 ≡ 0 = omega arith in
+    ap (λ (z : ℕ). x % z) (pow-suc 10 j ∙ mul_comm (10 ^ j) 10) ∙ mod-mul x ten (ten_pos j) ∙ (λ i. none i * 10 ^ j + low i) ∙ add-zero (0 * 10 ^ j) ∙ zero-mul (10 ^ j)
 
--- some digit of a number below 10 ^ 9 is not zero
-pub some_left : (x c rest : ℕ) → 0 < rest → x < 10 ^ 9 → x ≡ rest * 10 ^ (9 - c) → 0 < c
-some_left x zero rest h l e = absurd (omega arith)
-some_left x (suc c) rest h l e = omega arith
+pub used_is : (x : ℕ) {c : ℕ} {d : List ℕ} → d ≡ ending_digits 9 x → c ≤ length d → ((k : ℕ) → c ≤ k → k < length d → get_or d k 0 ≡ 48) → (0 < c → get_or d (c - 1) 0 ≡ 48 → ⊥) → c ≡ exact_places 9 x
+unfolding exact_places
+used_is x {c} {d} e h f g = sym (least_is _ 9 c le (eq-eqb _ 0 hit) (λ (i : ℕ) (l : i < c). ne_eqb _ 0 (miss i l)))
+  where
+    nine : length d ≡ 9
+    nine = ap length e ∙ length_digits 9 x
+
+    le : c ≤ 9
+    le = omega (arith, h, nine)
+
+    same : (k : ℕ) → get_or d k 0 ≡ get_or (ending_digits 9 x) k 0
+    same k = ap (λ (l : List ℕ). get_or l k 0) e
+
+    hit : x * 10 ^ c % 10 ^ 9 ≡ 0
+    hit = left_over 9 x c le ∙ ap (λ (z : ℕ). z * 10 ^ c) (zeros_end x (9 - c) (omega arith) (λ k a b. sym (same k) ∙ f k (omega (arith, a, le)) (omega (arith, b, nine)))) ∙ zero-mul (10 ^ c)
+
+    miss : (i : ℕ) → i < c → x * 10 ^ i % 10 ^ 9 ≡ 0 → ⊥
+    miss i l z =
+        let k : 8 - (c - 1) ≡ 9 - c = omega (arith, l, le) in
+        let digit : get_or d (c - 1) 0 ≡ 48 + x / 10 ^ (9 - c) % 10 = same (c - 1) ∙ rw k at (digit_at x (c - 1) (omega (arith, l, le))) in
+        g (omega arith) (omega (arith, digit, last_zero x c le i l z))
 
 -- ---- what the count of digits in use says of what follows them
 -- as many digits as are in use show x exactly

@@ -1,54 +1,26 @@
 -- Padding, and the answers of printing. Assumes nothing.
-use mathlib.Core.Path.{◌≡◌, refl, sym, ap, ◌∙◌}
-use mathlib.Core.Bool.{Bool, true, false, cond}
-use mathlib.Core.List.{List, ◌++◌}
-use Prim.Native.Nat.{ℕ, ◌+◌, ◌-◌, ◌/◌, ◌^◌, ◌≤◌, ◌<◌}
-use native.Mathlib.Omega.{arith}
-use borrow.Author.Tests.{eq-eqb, ne_eqb, le-leb, lt-leb, leb-true}
-use lib.Dec.{eqb, lit≤}
-use lib.ListN.{length, drop, length-append}
-use Rattle.refusal.specs.declared.Refusal.TheVariants.{BadOptions, NoRoom, BadDuration}
+use Rattle.std.proofs.Common.{◌≡◌, refl, sym, ap, ◌∙◌, ℕ, ◌+◌, ◌-◌, ◌/◌, ◌≤◌, ◌<◌, Bool, true, false, cond, eqb, List, ◌++◌, length, drop, length-append, Ok, Err, arith, le-leb}
+use borrow.Author.Tests.{lt-leb}
+use Rattle.refusal.specs.declared.Refusal.TheVariants.{NoRoom, BadDuration}
 use Rattle.duration.specs.declared.Duration.{Duration}
-use Rattle.duration.specs.Meaning.{N}
-use Rattle.duration.proofs.Valid.{is_valid, not_valid}
+use Rattle.duration.specs.Meaning.{N, valid, checked}
 use Rattle.laws.specs.Written.{times, Wrote}
-use Rattle.laws.proofs.Written.{length-times, splice_is}
-use Rattle.text.specs.declared.Count.{Count}
-use Rattle.text.specs.declared.Count.TheVariants.{Unset, Set}
+use Rattle.laws.proofs.Written.{length-times, splice_is, as_bytes}
 use Rattle.text.specs.declared.Options.{Options}
-use Rattle.text.specs.declared.TextAnswer.TheVariants.{Is, Refused}
-use Rattle.text.specs.Options.{limit, within, accepts}
+use Rattle.text.specs.declared.layout.Alignment.{Alignment}
+use Rattle.text.specs.declared.layout.Alignment.TheVariants.{Left, Centre, Right}
+use Rattle.text.specs.declared.layout.Layout.{Layout}
+use Rattle.text.specs.declared.plain.Plain.{Plain}
+use Rattle.text.specs.declared.plain.Size.{Size}
+use Rattle.text.specs.declared.unit.Scaled.{Scaled}
+use Rattle.text.specs.Options.{accepts}
 use Rattle.text.specs.Text.{lacking, front, padded, plain, characters, text}
-use Rattle.text.proofs.Characters.{chars_append, chars_times}
+use Rattle.text.specs.Parts.{in_front, Scales, Asks, emitted, composed, Sized, surrounded}
 use Rattle.text.specs.Answer.{fitted, answer_of, left_in, Printed}
+use Rattle.text.proofs.Characters.{chars_append, chars_times}
+use Rattle.text.proofs.Plains.{composed_is}
 
 -- ---- padding
-module _ {c : Count} where
-  pub lack_none : (k : ℕ) → c ≡ Unset → 0 ≡ lacking c k
-  unfolding lacking
-  lack_none k e = rw e
-
-  pub lack_zero : (k : ℕ) {w : ℕ} → c ≡ Set w → w ≤ k → 0 ≡ lacking c k
-  unfolding lacking
-  lack_zero k e h = rw e (omega arith)
-
-  pub lack_some : (k : ℕ) {w : ℕ} → c ≡ Set w → w - k ≡ lacking c k
-  unfolding lacking
-  lack_some k e = rw e
-
-module _ {alignment : ℕ} (pad : ℕ) where
-  pub front_right : alignment ≡ 3 → pad ≡ front alignment pad
-  unfolding front
-  front_right e = rw (eq-eqb alignment 3 e)
-
-  pub front_centre : alignment ≡ 2 → pad / 2 ≡ front alignment pad
-  unfolding front
-  front_centre e = rw (ne_eqb alignment 3 (λ (d : alignment ≡ 3). omega arith), eq-eqb alignment 2 e)
-
-  pub front_none : (alignment ≡ 3 → ⊥) → (alignment ≡ 2 → ⊥) → 0 ≡ front alignment pad
-  unfolding front
-  front_none d e = rw (ne_eqb alignment 3 d, ne_eqb alignment 2 e)
-
 pub front_le : (alignment pad : ℕ) → front alignment pad ≤ pad
 unfolding front
 front_le alignment pad = go (eqb alignment 3) (eqb alignment 2)
@@ -70,48 +42,70 @@ characters-padded pad alignment b t h =
     let k : ℕ = front alignment pad in
     omega (arith, front_le alignment pad, chars_append (times k b ++ t) (times (pad - k) b), chars_append (times k b) t, chars_times k b h, chars_times (pad - k) b h)
 
--- the padding in front, and after it
-pub pads : (pad alignment b : ℕ) (t : List ℕ) {k : ℕ} → k ≡ front alignment pad → times k b ++ t ++ times (pad - k) b ≡ padded pad alignment b t
-unfolding padded
-pads pad alignment b t e = ap (λ (k : ℕ). times k b ++ t ++ times (pad - k) b) e
+-- what goes in front is some of the padding
+pub in_front_le : (a : Alignment) (pad : ℕ) → in_front a pad ≤ pad
+in_front_le Left pad = omega arith
+in_front_le Centre pad = omega arith
+in_front_le Right pad = omega arith
 
-pub lack_le : (c : Count) (k : ℕ) → within c ≡ true → lacking c k ≤ limit
-unfolding lacking within
-lack_le Unset k h = lit≤ tt
-lack_le (Set w) k h = omega (arith, leb-true w limit h)
+pub length-surrounded : (l : Layout) (pad : ℕ) (t : List ℕ) → length (surrounded l pad t) ≡ length t + pad
+unfolding surrounded
+length-surrounded l pad t =
+    let k : ℕ = in_front l.alignment pad in
+    omega (arith, in_front_le l.alignment pad, length-append (times k l.fill ++ t) (times (pad - k) l.fill), length-append (times k l.fill) t, length-times k l.fill, length-times (pad - k) l.fill)
 
--- ---- the answers, in the order of the tests
-module _ (xs : List ℕ) (d : Duration) (o : Options) where
-  pub bad_duration : 10 ^ 9 ≤ d.nanos → Printed xs xs d o (Refused BadDuration)
-  unfolding answer_of left_in
-  bad_duration h = record { answer = rw (not_valid d h); left = refl }
+pub surrounds : (l : Layout) (pad : ℕ) (t : List ℕ) {k : ℕ} → k ≡ in_front l.alignment pad → times k l.fill ++ t ++ times (pad - k) l.fill ≡ surrounded l pad t
+unfolding surrounded
+surrounds l pad t e = ap (λ (k : ℕ). times k l.fill ++ t ++ times (pad - k) l.fill) e
 
-  module _ (good : d.nanos < 10 ^ 9) where
-    pub bad-options : accepts o ≡ false → Printed xs xs d o (Refused BadOptions)
-    unfolding answer_of left_in
-    bad-options h = record { answer = rw (is_valid d good, h); left = refl }
+-- ---- the answers: what was measured and is written is the text
+-- the pair that was looked at
+checked_is : (d : Duration) {e : Duration} → checked d ≡ Ok e → (valid d ≡ true) × (e ≡ d)
+unfolding checked
+checked_is d {e} h = go (valid d) h
+  where
+    go : (b : Bool) → cond b (Ok d) (Err BadDuration) ≡ Ok e → (b ≡ true) × (e ≡ d)
+    go true h = (refl, cc)
+    go false h = cc
 
-    module _ (fine : accepts o ≡ true) where
-      by-room : fitted (text (N d) o) (length xs) ≡ answer_of d o (length xs)
-      unfolding answer_of
-      by-room = rw (is_valid d good, fine)
+module _ (d : Duration) (o : Options) {e : Duration} {s : Scaled} {l : Layout} {p : Plain} {z : Size} {pad : ℕ}
+    (good : checked d ≡ Ok e) (a : Scales (N e) s) (asked : (accepts o ≡ true) × Asks o l) (m : emitted p ≡ composed s l) (sized : Sized p z) (h : pad ≡ l.width - z.characters) where
+  whole_text : surrounded l pad (emitted p) ≡ text (N d) o
+  unfolding text surrounded padded
+  whole_text = (λ i. times (before i) (q.fill i) ++ emitted p ++ times (lacks i - before i) (q.fill i)) ∙ ap (λ (t : List ℕ). padded (lacking o.width (characters t)) o.alignment o.fill t) plain_is
+    where
+      q : Asks o l
+      q = asked.1
 
-      pub no_room : length xs < length (text (N d) o) → Printed xs xs d o (Refused NoRoom)
-      unfolding left_in fitted
-      no_room h = record { answer = rw (lt-leb (length (text (N d) o)) (length xs) h) at by-room; left = refl }
+      plain_is : emitted p ≡ plain (N d) o
+      plain_is = m ∙ composed_is (N d) o (rw (checked_is d good).1 at a) q
 
-      pub placed : {zs : List ℕ} {r : ℕ} → length (text (N d) o) ≤ length xs → Wrote xs zs 0 r (text (N d) o) → Printed xs zs d o (Is r)
-      unfolding left_in fitted
-      placed {zs} {r} h w = record {
-        answer = ap Is length-is ∙ rw (le-leb (length (text (N d) o)) (length xs) h) at by-room;
-        left = w.bytes ∙ splice_is xs 0 (text (N d) o) (omega arith) ∙ ap (λ (k : ℕ). text (N d) o ++ drop k xs) (sym w.next);
-      }
-        where
-          length-is : r ≡ length (text (N d) o)
-          length-is = omega (arith, w.next)
+      lacks : pad ≡ lacking o.width (characters (emitted p))
+      lacks = h ∙ q.width z.characters ∙ ap (lacking o.width) sized.characters
 
--- the padded text is the text
-pub text_is : (n : ℕ) (o : Options) {t : List ℕ} {pad c : ℕ} → t ≡ plain n o → c ≡ characters t → pad ≡ lacking o.width c → padded pad o.alignment o.fill t ≡ text n o
-unfolding text
-text_is n o {t} {pad} {c} e f h =
-    (λ i. padded (h i) o.alignment o.fill t) ∙ (λ i. padded (lacking o.width (f i)) o.alignment o.fill t) ∙ ap (λ (s : List ℕ). padded (lacking o.width (characters s)) o.alignment o.fill s) e
+      before : in_front l.alignment pad ≡ front o.alignment (lacking o.width (characters (emitted p)))
+      before = q.front pad ∙ ap (front o.alignment) lacks
+
+  length-text : length (text (N d) o) ≡ z.bytes + pad
+  length-text = sym (ap length whole_text) ∙ length-surrounded l pad (emitted p) ∙ ap (λ (k : ℕ). k + pad) (sym sized.bytes)
+
+  by-room : (xs : List ℕ) → fitted (text (N d) o) (length xs) ≡ answer_of d o (length xs)
+  unfolding answer_of
+  by-room xs = rw ((checked_is d good).0, asked.0)
+
+  pub no_room : (xs : List ℕ) → length xs < z.bytes + pad → Printed xs xs d o (Err NoRoom)
+  unfolding left_in fitted
+  no_room xs k = record { answer = let b = by-room xs in rw (lt-leb (length (text (N d) o)) (length xs) (omega (arith, k, length-text))) at b; left = refl }
+
+  pub placed : {xs zs : List ℕ} {r : ℕ} → z.bytes + pad ≤ length xs → Wrote xs zs 0 r (surrounded l pad (emitted p)) → Printed xs zs d o (Ok r)
+  unfolding left_in fitted
+  placed {xs} {zs} {r} k u = record {
+    answer = ap Ok (omega (arith, w.next)) ∙ rw (le-leb (length (text (N d) o)) (length xs) fits) at (by-room xs);
+    left = w.bytes ∙ splice_is xs 0 (text (N d) o) (omega (arith, fits)) ∙ ap (λ (k : ℕ). text (N d) o ++ drop k xs) (sym w.next);
+  }
+    where
+      w : Wrote xs zs 0 r (text (N d) o)
+      w = as_bytes whole_text u
+
+      fits : length (text (N d) o) ≤ length xs
+      fits = omega (arith, k, length-text)

@@ -1,10 +1,6 @@
 -- The bytes at a list's front that pass a test: where a text's pieces part. Assumes nothing.
-use mathlib.Core.Path.{◌≡◌, refl, sym, ap, ◌∙◌}
-use mathlib.Core.Bool.{Bool, true, cond}
-use mathlib.Core.List.{List, [], ◌∷◌, ◌++◌, append_assoc, append-nil}
-use Prim.Native.Nat.{ℕ}
-use lib.ListN.{length, drop}
-use lib.Seq.{drop-append_seam}
+use Rattle.std.proofs.Common.{◌≡◌, refl, sym, ap, ◌∙◌, Bool, true, cond, List, [], ◌∷◌, ◌++◌, append_assoc, append-nil, ℕ, length, drop}
+use Rattle.std.proofs.Math.Seq.{drop-append_seam}
 
 abbrev pub run : (ℕ → Bool) → List ℕ → List ℕ
 run p [] = []

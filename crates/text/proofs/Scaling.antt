@@ -1,15 +1,9 @@
 -- A value in its unit is shown as it is in billionths of the unit. Assumes nothing.
-use mathlib.Core.Path.{◌≡◌, refl, sym, ap, ◌∙◌}
-use mathlib.Core.Bool.{Bool, true, false}
-use Prim.Native.Nat.{ℕ, ◌+◌, ◌-◌, ◌*◌, ◌%◌, ◌^◌, ◌≤◌}
-use native.Mathlib.Nat.{mul_comm, mul_assoc, mul_right_comm, mul-mod_left, zero-mul}
-use native.Mathlib.Omega.{arith}
-use borrow.Author.Tests.{eq-eqb, ne_eqb, eqb-true, eqb-false}
-use lib.Dec.{lit<, eqb}
+use Rattle.std.proofs.Common.{Option, None, Some, ◌≡◌, refl, sym, ap, ◌∙◌, Bool, true, false, ℕ, ◌+◌, ◌-◌, ◌*◌, ◌%◌, ◌^◌, ◌≤◌, mul_comm, mul_assoc, mul_right_comm, zero-mul, arith, eq-eqb, ne_eqb, eqb-true, lit<, eqb}
+use Rattle.std.proofs.Math.Nat.{mul-mod_left}
+use borrow.Author.Tests.{eqb-false}
 use lib.Ieee.Nearest.{closest_same}
 use Rattle.laws.proofs.Closest.{zero_of}
-use Rattle.text.specs.declared.Count.{Count}
-use Rattle.text.specs.declared.Count.TheVariants.{Unset, Set}
 use Rattle.text.specs.Digits.{least, numeral}
 use Rattle.text.specs.Text.{exact_places, places_of, shown}
 use Rattle.text.proofs.Leasts.{least_bound}
@@ -51,7 +45,7 @@ module _ (k n : ℕ) (h : k ≤ 9) where
       (λ i. least (λ (p : ℕ). zero_same p i) 9)
       ∙ least_bound (λ (p : ℕ). eqb (n * 10 ^ p % 10 ^ k) 0) k 9 h (eq-eqb (n * 10 ^ k % 10 ^ k) 0 (mul-mod_left n (10 ^ k)))
 
-  pub of-scaled : (c : Count) → places_of c 9 (n * 10 ^ (9 - k)) ≡ places_of c k n
+  pub of-scaled : (c : Option ℕ) → places_of c 9 (n * 10 ^ (9 - k)) ≡ places_of c k n
   unfolding places_of
-  of-scaled Unset = places-scaled
-  of-scaled (Set p) = refl
+  of-scaled None = places-scaled
+  of-scaled (Some p) = refl

@@ -4,4 +4,5 @@ pub mod Options
 pub mod Text
 pub mod Answer
 pub mod Parts
+pub mod Writing
 pub mod Theorems

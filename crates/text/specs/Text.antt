@@ -1,9 +1,9 @@
 -- The text of n nanoseconds. It is said over n and the options alone: a text does not know its buffer. Assumes nothing.
-use Rattle.std.specs.Prelude.{ℕ, suc, ◌-◌, ◌*◌, ◌/◌, ◌%◌, ◌^◌, cond, ◌&&◌, List, [], ◌∷◌, ◌++◌, leb, ltb, eqb}
+use Rattle.std.specs.Prelude.{ℕ, suc, ◌-◌, ◌*◌, ◌/◌, ◌%◌, ◌^◌, cond, ◌&&◌, List, [], ◌∷◌, ◌++◌, leb, ltb, eqb, Option, None, Some}
 use Rattle.laws.specs.Names.{closest, times}
 use Rattle.text.specs.declared.unit.Unit.{Unit}
 use Rattle.text.specs.Digits.{least, numeral}
-pub use Rattle.text.specs.Options.{Count, Options, limit, accepts}
+pub use Rattle.text.specs.Options.{Options, limit, accepts}
 
 -- a unit is 10 ^ places nanoseconds, and has a suffix
 pub record Measure : Type 0 where
@@ -28,9 +28,9 @@ unfoldable pub exact_places : ℕ → ℕ → ℕ
 exact_places k n = least (λ (p : ℕ). eqb (n * 10 ^ p % 10 ^ k) 0) k
 
 -- how many fraction digits are shown
-unfoldable pub places_of : Count → ℕ → ℕ → ℕ
-places_of Count.Unset k n = exact_places k n
-places_of (Count.Set p) k n = p
+unfoldable pub places_of : Option ℕ → ℕ → ℕ → ℕ
+places_of None k n = exact_places k n
+places_of (Some p) k n = p
 
 -- n over 10 ^ k to p fraction digits: the nearest such number, half to even
 unfoldable pub shown : ℕ → ℕ → ℕ → List ℕ
@@ -49,9 +49,9 @@ characters [] = 0
 characters (b ∷ l) = cond (leb 0x80 b && ltb b 0xC0) (characters l) (suc (characters l))
 
 -- how many characters a text of so many lacks
-unfoldable pub lacking : Count → ℕ → ℕ
-lacking Count.Unset c = 0
-lacking (Count.Set w) c = w - c
+unfoldable pub lacking : Option ℕ → ℕ → ℕ
+lacking None c = 0
+lacking (Some w) c = w - c
 
 -- how much of the padding goes in front
 unfoldable pub front : ℕ → ℕ → ℕ

@@ -1,8 +1,8 @@
 -- What is true of every text. Each statement is a type; its proof stands in proofs/Theorems.antt. Assumes nothing.
-use Rattle.std.specs.Prelude.{ℕ, ◌+◌, ◌-◌, ◌*◌, ◌^◌, ◌≤◌, ◌<◌, ◌≡◌, true, List, [], ◌∷◌, length}
+use Rattle.std.specs.Prelude.{ℕ, ◌+◌, ◌-◌, ◌*◌, ◌^◌, ◌≤◌, ◌<◌, ◌≡◌, true, List, [], ◌∷◌, length, None, Some}
 use Rattle.laws.specs.Names.{most}
 use Rattle.text.specs.Digits.{width, decimal}
-use Rattle.text.specs.Text.{Count, Options, accepts, characters, text}
+use Rattle.text.specs.Text.{Options, accepts, characters, text}
 
 -- the number that decimal digits show, behind those that showed a
 abbrev pub value_from : ℕ → List ℕ → ℕ
@@ -19,12 +19,12 @@ Longest = (n : ℕ) (o : Options) → n ≤ most → accepts o ≡ true → leng
 
 -- and MAX has so many, with a plus sign and 255 fraction digits
 abbrev pub Reached : Type 0
-Reached = length (text most (record { plus = 1; precision = Count.Set 255; width = Count.Unset; alignment = 0; fill = 0x20 })) ≡ 278
+Reached = length (text most (record { plus = 1; precision = Some 255; width = None; alignment = 0; fill = 0x20 })) ≡ 278
 
 -- a text has at least as many characters as its width
 abbrev pub Wide : Type 0
-Wide = (n : ℕ) (o : Options) (w : ℕ) → accepts o ≡ true → o.width ≡ Count.Set w → w ≤ characters (text n o)
+Wide = (n : ℕ) (o : Options) (w : ℕ) → accepts o ≡ true → o.width ≡ Some w → w ≤ characters (text n o)
 
 -- without a precision, and with no fill to hide it, a text has one value
 abbrev pub Distinct : Type 0
-Distinct = (m n : ℕ) (o : Options) → o.precision ≡ Count.Unset → o.width ≡ Count.Unset → text m o ≡ text n o → m ≡ n
+Distinct = (m n : ℕ) (o : Options) → o.precision ≡ None → o.width ≡ None → text m o ≡ text n o → m ≡ n

@@ -1,80 +1,45 @@
 // Whole numbers in decimal.
-ghost use Rattle.std.specs.Prelude.{◌≡◌, ◌+◌, ◌≤◌, ◌<◌, length};
-ghost use Rattle.laws.specs.Written.{Wrote};
-ghost use Rattle.text.specs.Digits.{ending_digits, width, decimal};
-ghost use Rattle.text.specs.Parts.{Whole};
-
-use crate::write::copy;
+ghost use Rattle.std.specs.Prelude.{◌≡◌, length};
+ghost use Rattle.text.specs.Digits.{ending_digits, width};
 
 // How many decimal digits n has.
+#[tactic(auto, using(crate::proofs::Decimals::width_one, crate::proofs::Decimals::width_log))]
 pub fn width_of(n: u64) -> usize
     ensures { result ≡ width n }
 {
-    match n {
-        0..=9 => 1,
-        10..=99 => 2,
-        100..=999 => 3,
-        1_000..=9_999 => 4,
-        10_000..=99_999 => 5,
-        100_000..=999_999 => 6,
-        1_000_000..=9_999_999 => 7,
-        10_000_000..=99_999_999 => 8,
-        100_000_000..=999_999_999 => 9,
-        1_000_000_000..=9_999_999_999 => 10,
-        10_000_000_000..=99_999_999_999 => 11,
-        100_000_000_000..=999_999_999_999 => 12,
-        1_000_000_000_000..=9_999_999_999_999 => 13,
-        10_000_000_000_000..=99_999_999_999_999 => 14,
-        100_000_000_000_000..=999_999_999_999_999 => 15,
-        1_000_000_000_000_000..=9_999_999_999_999_999 => 16,
-        10_000_000_000_000_000..=99_999_999_999_999_999 => 17,
-        100_000_000_000_000_000..=999_999_999_999_999_999 => 18,
-        1_000_000_000_000_000_000..=9_999_999_999_999_999_999 => 19,
-        10_000_000_000_000_000_000.. => 20,
+    if n == 0 {
+        return 1;
     }
+    n.ilog10() as usize + 1
 }
 
-// The last k decimal digits of n at index at, written from the last to the first; the index after them. Two at a time, since
-// each division waits for the one before.
-pub fn put_digits(out: &mut [u8], at: usize, n: u64, k: usize) -> usize
-    requires { at + k ≤ length out.old }
-    ensures { Wrote out.old out.new at result (ending_digits k n) }
+// The last decimal digits of n, as many as out has bytes, from the last on. Two at a time, since each division waits for the one before.
+#[tactic(auto, using(crate::proofs::Decimals::digit_pair, crate::proofs::Decimals::one_left, crate::proofs::Decimals::none_left, crate::proofs::Decimals::all_digits))]
+fn put_short(out: &mut [u8], n: u64)
+    ensures { out.new ≡ ending_digits (length out.old) n }
 {
-    let mut i = k;
+    let odd = out.len() % 2;
     let mut rest = n;
-    while 1 < i {
-        i -= 2;
+    for i in (0..out.len() / 2).rev() {
         let pair = rest % 100;
-        out[at + i + 1] = b'0' + (pair % 10) as u8;
-        out[at + i] = b'0' + (pair / 10) as u8;
+        out[odd + 2 * i + 1] = b'0' + (pair % 10) as u8;
+        out[odd + 2 * i] = b'0' + (pair / 10) as u8;
         rest /= 100;
     }
-    if i == 0 {
-        return at + k;
+    if odd == 1 {
+        out[0] = b'0' + (rest % 10) as u8;
     }
-    out[at] = b'0' + (rest % 10) as u8;
-    at + k
 }
 
-// The same for a number that may be long: in two parts, which do not wait for each other.
-fn put_long(out: &mut [u8], at: usize, n: u64, k: usize) -> usize
-    requires { at + k ≤ length out.old }
-    ensures { Wrote out.old out.new at result (ending_digits k n) }
+// The same for any number: a long one in two parts, which do not wait for each other.
+#[tactic(auto, using(crate::proofs::Decimals::two_parts))]
+pub fn put_digits(out: &mut [u8], n: u64)
+    ensures { out.new ≡ ending_digits (length out.old) n }
 {
-    if k <= 10 {
-        return put_digits(out, at, n, k);
+    if out.len() <= 10 {
+        return put_short(out, n);
     }
-    let middle = put_digits(out, at, n / 10_000_000_000, k - 10);
-    put_digits(out, middle, n % 10_000_000_000, 10)
-}
-
-// n + past in decimal, where past is 0, or 1 beside the largest word; n has k digits.
-pub fn put_whole(out: &mut [u8], at: usize, n: u64, past: u64, k: usize) -> usize
-    requires { (at + length (decimal (n + past)) ≤ length out.old) × Whole n past × (k ≡ width n) }
-    ensures { Wrote out.old out.new at result (decimal (n + past)) }
-{
-    if past == 0 {
-        return put_long(out, at, n, k);
-    }
-    copy(out, at, b"18446744073709551616")
+    let (high, low) = out.split_at_mut(out.len() - 10);
+    put_short(high, n / 10_000_000_000);
+    put_short(low, n % 10_000_000_000);
 }

@@ -1,69 +1,41 @@
 // The digit step: the digits of a fraction, and how many of them are in use.
-ghost use Rattle.std.specs.Prelude.{◌≡◌, ◌-◌, ◌*◌, ◌^◌, ◌≤◌, ◌<◌};
-ghost use Rattle.text.specs.Text.{exact_places};
-ghost use Rattle.text.specs.Parts.{fraction_digits};
+ghost use Rattle.std.specs.Prelude.{◌≡◌, ◌≢◌, ℕ, ◌-◌, ◌≤◌, ◌<◌, length, slice_index};
 
 use crate::digits::put_digits;
+use crate::unit::Amount;
 
-// Nine digits, and how many stand before the zeros at the end.
+// Nine digits, and how many of them are in use: one record, as document 01 has it.
 #[derive(Clone, Copy)]
 pub struct Fraction {
     pub digits: [u8; 9],
     pub count: usize,
+    ghost used: { count ≤ 9 },
 }
 
-// A number without some of the zeros at its end, and how many of nine digits that leaves.
-#[derive(Clone, Copy)]
-struct Front {
-    rest: u32,
-    count: usize,
-}
-
-// Milliseconds end in three zeros and microseconds in six: these go at once.
-fn cut_thousands(x: u32) -> Front
-    requires { 0 < x }
-    ensures { (0 < result.rest) × (result.count ≤ 9) × (x ≡ result.rest * 10 ^ (9 - result.count)) }
+// How many digits stand before the zeros at the end. Not inlined, so that the digits stay in memory: in registers each is moved alone.
+#[inline(never)]
+fn count_used(digits: &[u8]) -> usize
+    ensures within { result ≤ length digits.now }
+    ensures zeros { (k : ℕ) → result ≤ k → k < length digits.now → slice_index digits.now k ≡ 48 }
+    ensures last { 0 < result → slice_index digits.now (result - 1) ≢ 48 }
 {
-    if x % 1_000_000 == 0 {
-        return Front {
-            rest: x / 1_000_000,
-            count: 3,
-        };
-    }
-    if x % 1_000 == 0 {
-        return Front {
-            rest: x / 1_000,
-            count: 6,
-        };
-    }
-    Front { rest: x, count: 9 }
+    digits.iter().rposition(|b| *b != b'0').map_or(0, |i| i + 1)
 }
 
-// Of the nine digits of x, how many stand before the zeros at the end.
-fn used_of(x: u32) -> usize
-    requires { (0 < x) × (x < 10 ^ 9) }
-    ensures { result ≡ exact_places 9 x }
-{
-    let s = cut_thousands(x);
-    let mut count = s.count;
-    let mut rest = s.rest;
-    while rest % 10 == 0 {
-        rest /= 10;
-        count -= 1;
-    }
-    count
-}
+impl Fraction {
+    ghost use Rattle.text.specs.Parts.{IsFraction};
 
-// The digits of x billionths.
-pub fn fraction_of(x: u32) -> Fraction
-    requires { x < 10 ^ 9 }
-    ensures { result ≡ fraction_digits x }
-{
-    let mut digits = [b'0'; 9];
-    if x == 0 {
-        return Fraction { digits, count: 0 };
+    // The digits of the billionths.
+    #[tactic(auto, using(crate::proofs::Places::used_is), unfolding(crate::specs::Digits::ending_digits, crate::specs::Digits::least, crate::specs::Text::exact_places))]
+    pub fn of(a: Amount) -> Fraction
+        ensures { IsFraction a.part result }
+    {
+        let mut digits = [b'0'; 9];
+        if a.part == 0 {
+            return Fraction { digits, count: 0 };
+        }
+        put_digits(&mut digits, a.part as u64);
+        let count = count_used(&digits);
+        Fraction { digits, count }
     }
-    put_digits(&mut digits, 0, x as u64, 9);
-    let count = used_of(x);
-    Fraction { digits, count }
 }

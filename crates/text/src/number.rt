@@ -1,125 +1,124 @@
 // A number as it is printed: made of a whole part and billionths, measured, and written.
-ghost use Rattle.std.specs.Prelude.{◌≡◌, true, ◌++◌, ◌+◌, ◌*◌, ◌^◌, ◌≤◌, ◌<◌, length, take};
-ghost use Rattle.laws.specs.Written.{Wrote, times};
-ghost use Rattle.text.specs.Digits.{pointed};
-ghost use Rattle.text.specs.Options.{limit, within};
-ghost use Rattle.text.specs.Text.{exact_places, places_of, shown};
-ghost use Rattle.text.specs.Parts.{laid, Sound, Laid};
+ghost use Rattle.std.specs.Prelude.{◌≡◌, ◌^◌, ◌≤◌};
+ghost use Rattle.text.specs.Digits.{width};
+ghost use Rattle.text.specs.Options.{limit};
 
-use crate::Count;
-use crate::digits::{put_whole, width_of};
-use crate::fraction::{Fraction, fraction_of};
+use crate::digits::width_of;
+use crate::fraction::Fraction;
 use crate::round::round;
-use crate::write::{copy, fill};
+use crate::unit::Amount;
+use crate::write::Writer;
 
 // The whole part, the digits of the fraction in use, and zeros after them.
 #[derive(Clone, Copy)]
 pub struct Number {
-    pub whole: u64,
-    // how many digits that has
-    pub width: usize,
-    // 0, or 1 beside the largest word: what rounding carried past it
-    pub past: u64,
+    // rounding can carry one past the largest word
+    pub whole: u128,
+    // how many digits that has, learnt once
+    pub digits: usize,
     pub fraction: Fraction,
     pub zeros: usize,
+    ghost one_past: { whole ≤ 2 ^ 64 },
+    ghost measured: { digits ≡ width whole },
+    ghost few: { zeros ≤ limit },
 }
 
-// n and x billionths with all their digits.
-fn exactly(n: u64, x: u32) -> Number
-    requires { x < 10 ^ 9 }
-    ensures { Laid (shown 9 (n * 10 ^ 9 + x) (exact_places 9 (n * 10 ^ 9 + x))) result }
-{
-    Number {
-        whole: n,
-        width: width_of(n),
-        past: 0,
-        fraction: fraction_of(x),
-        zeros: 0,
-    }
-}
+impl Number {
+    ghost use Rattle.std.specs.Prelude.{◌+◌, length};
+    ghost use Rattle.std.specs.Option.{ForSome};
+    ghost use Rattle.text.specs.Digits.{pointed, decimal};
+    ghost use Rattle.text.specs.Text.{places_of, shown};
+    ghost use Rattle.text.specs.Parts.{billionths, laid, laid_out, places};
+    ghost use Rattle.text.specs.Writing.{HasRoom, Appended};
 
-// n and x billionths to p digits. From nine digits on nothing is rounded.
-fn rounded(n: u64, x: u32, p: usize) -> Number
-    requires { (x < 10 ^ 9) × (p ≤ limit) }
-    ensures { Laid (shown 9 (n * 10 ^ 9 + x) p) result }
-{
-    let f = fraction_of(x);
-    if 9 <= p {
-        let digits = f.digits;
-        return Number {
-            whole: n,
-            width: width_of(n),
-            past: 0,
-            fraction: Fraction { digits, count: 9 },
-            zeros: p - 9,
+    #[tactic(auto, using(crate::proofs::Lengths::past_width))]
+    fn new(whole: u128, fraction: Fraction, zeros: usize) -> Number
+        requires { (whole ≤ 2 ^ 64) × (zeros ≤ limit) }
+        ensures { laid result ≡ laid_out whole fraction zeros }
+    {
+        let digits = match u64::try_from(whole) {
+            Ok(n) => width_of(n),
+            Err(_) => 20,
         };
-    }
-    let r = round(f, p, n);
-    let fraction = r.fraction;
-    if n < u64::MAX {
-        let whole = n + r.carry;
-        return Number {
+        Number {
             whole,
-            width: width_of(whole),
-            past: 0,
+            digits,
             fraction,
-            zeros: 0,
-        };
+            zeros,
+        }
     }
-    Number {
-        whole: n,
-        width: 20,
-        past: r.carry,
-        fraction,
-        zeros: 0,
-    }
-}
 
-// n and x billionths as the precision asks.
-pub fn number_of(n: u64, x: u32, precision: Count) -> Number
-    requires { (x < 10 ^ 9) × (within precision ≡ true) }
-    ensures { Laid (shown 9 (n * 10 ^ 9 + x) (places_of precision 9 (n * 10 ^ 9 + x))) result }
-{
-    match precision {
-        Count::Unset => exactly(n, x),
-        Count::Set(p) => rounded(n, x, p as usize),
+    // a to p digits. From nine digits on nothing is rounded.
+    #[tactic(auto, using(crate::proofs::Layouts::rounded_is))]
+    fn rounded(a: Amount, p: usize) -> Number
+        requires { p ≤ limit }
+        ensures { laid result ≡ shown 9 (billionths a) p }
+    {
+        let f = Fraction::of(a);
+        if 9 <= p {
+            let digits = f.digits;
+            return Number::new(a.whole as u128, Fraction { digits, count: 9 }, p - 9);
+        }
+        let r = round(a, f, p);
+        Number::new(a.whole as u128 + r.carry as u128, r.fraction, 0)
     }
-}
 
-// How many bytes a number has: a point is written only before digits.
-pub fn number_bytes(n: Number) -> usize
-    requires { Sound n }
-    ensures { (result ≡ length (laid n)) × (result ≤ limit + 30) }
-{
-    let f = n.fraction;
-    let places = f.count + n.zeros;
-    if places == 0 {
-        return n.width;
+    // a as the precision asks: with none, all its digits.
+    #[tactic(auto, using(crate::proofs::Layouts::exactly_is), unfolding(crate::specs::Text::places_of))]
+    pub fn of(a: Amount, precision: Option<u64>) -> Number
+        requires { ForSome precision (λ p. p ≤ limit) }
+        ensures { laid result ≡ shown 9 (billionths a) (places_of precision 9 (billionths a)) }
+    {
+        match precision {
+            None => Number::new(a.whole as u128, Fraction::of(a), 0),
+            Some(p) => Number::rounded(a, p as usize),
+        }
     }
-    n.width + 1 + places
-}
 
-// A point, the digits in use and the zeros; nothing where there are none.
-fn put_places(out: &mut [u8], at: usize, f: Fraction, zeros: usize) -> usize
-    requires { (at + length (pointed (take f.count f.digits ++ times zeros 48)) ≤ length out.old) × (f.count ≤ 9) × (zeros ≤ limit) }
-    ensures { Wrote out.old out.new at result (pointed (take f.count f.digits ++ times zeros 48)) }
-{
-    let count = f.count;
-    let d = f.digits;
-    if count + zeros == 0 {
-        return at;
+    // How many bytes it has: a point is written only before digits.
+    pub fn bytes(self) -> usize
+        ensures { (result ≡ length (laid self)) × (result ≤ limit + 30) }
+    {
+        let places = self.fraction.count + self.zeros;
+        if places == 0 {
+            return self.digits;
+        }
+        self.digits + 1 + places
     }
-    let a = fill(out, at, 1, b'.');
-    let b = copy(out, a, &d[..count]);
-    fill(out, b, zeros, b'0')
-}
 
-// The bytes of a number at index at; the index after them.
-pub fn put_number(out: &mut [u8], at: usize, n: Number) -> usize
-    requires { (at + length (laid n) ≤ length out.old) × Sound n }
-    ensures { Wrote out.old out.new at result (laid n) }
-{
-    let f = n.fraction;
-    let a = put_whole(out, at, n.whole, n.past, n.width);
-    put_places(out, a, f, n.zeros)
+    #[tactic(auto, using(crate::proofs::Writing::as_same, crate::proofs::Lengths::past_width, crate::proofs::Lengths::past_decimal, crate::proofs::Lengths::word_decimal))]
+    fn write_whole(self, w: &mut Writer)
+        requires { HasRoom w.old self.digits }
+        ensures { Appended w.old w.new (decimal self.whole) }
+    {
+        match u64::try_from(self.whole) {
+            Ok(n) => w.digits(n, self.digits),
+            Err(_) => w.put(b"18446744073709551616"),
+        }
+    }
+
+    // A point, the digits in use and the zeros; nothing where there are none.
+    #[tactic(auto, using(crate::proofs::Writing::as_same, crate::proofs::Writing::unchanged, crate::proofs::Lengths::no_places, crate::proofs::Lengths::length_some))]
+    fn write_places(self, w: &mut Writer)
+        requires { HasRoom w.old (length (pointed (places self.fraction self.zeros))) }
+        ensures { Appended w.old w.new (pointed (places self.fraction self.zeros)) }
+    {
+        let count = self.fraction.count;
+        let digits = self.fraction.digits;
+        if count + self.zeros == 0 {
+            return;
+        }
+        w.put(b".");
+        w.put(&digits[..count]);
+        w.repeat(b'0', self.zeros);
+    }
+
+    #[tactic(auto, using(crate::proofs::Writing::left, crate::proofs::Lengths::length_laid, crate::proofs::Decimals::length_decimal))]
+    pub fn write(self, w: &mut Writer)
+        requires { HasRoom w.old (length (laid self)) }
+        ensures { Appended w.old w.new (laid self) }
+    {
+        self.write_whole(w);
+        self.write_places(w);
+    }
 }

@@ -1,21 +1,17 @@
 // A duration's text without padding: laid out, measured, and written.
-ghost use Rattle.std.specs.Prelude.{◌≡◌, true, ◌+◌, ◌^◌, ◌≤◌, ◌<◌, length};
-ghost use Rattle.laws.specs.Written.{Wrote};
-ghost use Rattle.duration.specs.Meaning.{N};
-ghost use Rattle.text.specs.Options.{accepts};
-ghost use Rattle.text.specs.Text.{plain};
-ghost use Rattle.text.specs.Parts.{emitted, Plains, Sized};
+ghost use Rattle.std.specs.Prelude.{◌≡◌, length};
+ghost use Rattle.text.specs.Parts.{composed, emitted, Sized, IsAscii};
+ghost use Rattle.text.specs.Writing.{HasRoom, Appended};
 
-use crate::Options;
-use crate::number::{Number, number_bytes, number_of, put_number};
-use crate::unit::{Unit, put_suffix, scale, suffix_bytes, suffix_characters};
-use crate::write::fill;
-use duration::Duration;
+use crate::layout::Layout;
+use crate::number::Number;
+use crate::unit::{Scaled, Unit};
+use crate::write::Writer;
 
 // Sign, number and suffix.
 #[derive(Clone, Copy)]
 pub struct Plain {
-    pub plus: usize,
+    pub plus: bool,
     pub number: Number,
     pub unit: Unit,
 }
@@ -27,42 +23,40 @@ pub struct Size {
     pub characters: usize,
 }
 
-pub fn plain_of(d: Duration, o: Options) -> Plain
-    requires { (d.nanos < 10 ^ 9) × (accepts o ≡ true) }
-    ensures { Plains (plain (N d) o) result }
-{
-    let s = scale(d);
-    let unit = s.unit;
-    let precision = o.precision;
-    let number = number_of(s.whole, s.part, precision);
-    Plain {
-        plus: o.plus as usize,
-        number,
-        unit,
+impl Plain {
+    #[tactic(auto, using(crate::proofs::Plains::ascii_is), unfolding(crate::specs::Parts::emitted, crate::specs::Parts::composed))]
+    pub fn new(s: Scaled, l: Layout) -> Plain
+        ensures { (emitted result ≡ composed s l) × IsAscii result.number }
+    {
+        Plain {
+            plus: l.plus,
+            number: Number::of(s.amount, l.precision),
+            unit: s.unit,
+        }
     }
-}
 
-pub fn size_of(p: Plain) -> Size
-    requires { Plains (emitted p) p }
-    ensures { Sized p result }
-{
-    let n = p.number;
-    let u = p.unit;
-    let body = p.plus + number_bytes(n);
-    Size {
-        bytes: body + suffix_bytes(u),
-        characters: body + suffix_characters(u),
+    #[tactic(auto, using(crate::proofs::Plains::sign_le, crate::proofs::Plains::suffix_le, crate::proofs::Plains::suffix_characters_le, crate::proofs::Plains::length_emitted, crate::proofs::Plains::characters_emitted))]
+    pub fn size(self) -> Size
+        requires { IsAscii self.number }
+        ensures { Sized self result }
+    {
+        let body = usize::from(self.plus) + self.number.bytes();
+        Size {
+            bytes: body + self.unit.suffix().len(),
+            characters: body + self.unit.characters(),
+        }
     }
-}
 
-// The text at index at; the index after it. Rust's `emit_without_padding`.
-pub fn emit(out: &mut [u8], at: usize, p: Plain) -> usize
-    requires { (at + length (emitted p) ≤ length out.old) × Plains (emitted p) p }
-    ensures { Wrote out.old out.new at result (emitted p) }
-{
-    let n = p.number;
-    let u = p.unit;
-    let a = fill(out, at, p.plus, b'+');
-    let b = put_number(out, a, n);
-    put_suffix(out, b, u)
+    // Rust's `emit_without_padding`.
+    #[tactic(auto, using(crate::proofs::Plains::length_emitted, crate::proofs::Plains::length_sign))]
+    pub fn write(self, w: &mut Writer)
+        requires { HasRoom w.old (length (emitted self)) }
+        ensures { Appended w.old w.new (emitted self) }
+    {
+        if self.plus {
+            w.put(b"+");
+        }
+        self.number.write(w);
+        w.put(self.unit.suffix());
+    }
 }

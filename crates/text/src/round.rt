@@ -1,84 +1,62 @@
 // The rounding step: a fraction to fewer digits, half to even.
-ghost use Rattle.std.specs.Prelude.{◌≡◌, ℕ, ◌+◌, ◌-◌, ◌*◌, ◌/◌, ◌^◌, ◌≤◌, ◌<◌, length, take};
-ghost use Rattle.laws.specs.Written.{splice};
-ghost use Rattle.text.specs.Digits.{ending_digits};
-ghost use Rattle.text.specs.Parts.{fraction_digits, nearest_to, Rounds};
+ghost use Rattle.std.specs.Prelude.{◌≡◌, ◌+◌, ◌*◌, ◌/◌, ◌-◌, ◌^◌, ◌<◌};
+ghost use Rattle.std.specs.Int.{from_bool};
+ghost use Rattle.text.specs.Parts.{IsFraction, nearest_to, Bumps, Rounds};
 
 use crate::fraction::Fraction;
+use crate::unit::Amount;
 
-// A rounded fraction, and what is carried into the whole part.
+// A rounded fraction, and whether one is carried into the whole part.
 #[derive(Clone, Copy)]
 pub struct Rounded {
     pub fraction: Fraction,
-    pub carry: u64,
+    pub carry: bool,
 }
 
-// What rounding n and this fraction to q digits adds to the last digit that is kept.
-fn goes_up(f: Fraction, q: usize, n: u64) -> u64
-    requires { q < 9 }
-    ensures { (x : ℕ) → x < 10 ^ 9 → f ≡ fraction_digits x → n * 10 ^ q + x / 10 ^ (9 - q) + result ≡ nearest_to q n x }
+// Whether rounding a, whose fraction is f, to q digits adds one to the last digit that is kept.
+#[tactic(auto, using(crate::proofs::Rounding::by_high, crate::proofs::Rounding::by_more, crate::proofs::Rounding::by_whole, crate::proofs::Rounding::by_last))]
+fn goes_up(a: Amount, f: Fraction, q: usize) -> bool
+    requires { (q < 9) × IsFraction a.part f }
+    ensures { a.whole * 10 ^ q + a.part / 10 ^ (9 - q) + from_bool result ≡ nearest_to q a.whole a.part }
 {
-    let count = f.count;
-    let d = f.digits;
-    if count <= q {
-        return 0;
+    let digits = f.digits;
+    let next = digits[q];
+    if f.count <= q || next < b'5' {
+        return false;
     }
-    let b = d[q];
-    if b < b'5' {
-        return 0;
-    }
-    if b'5' < b {
-        return 1;
-    }
-    if q + 1 < count {
-        return 1;
+    if b'5' < next || q + 1 < f.count {
+        return true;
     }
     if q == 0 {
-        return n % 2;
+        return a.whole % 2 == 1;
     }
-    (d[q - 1] % 2) as u64
+    digits[q - 1] % 2 == 1
 }
 
-// Adds one to the number whose decimal digits are the first q of d; the carry.
-fn bump(d: &mut [u8], q: usize) -> u64
-    requires { q ≤ length d.old }
-    ensures { (m : ℕ) → m < 10 ^ q → take q d.old ≡ ending_digits q m → (d.new ≡ splice d.old 0 (ending_digits q (m + 1))) × (result ≡ (m + 1) / 10 ^ q) }
+// Adds one to the number whose decimal digits are d; whether that carries one out of them.
+#[tactic(auto, using(crate::proofs::Carrying::carry_start, crate::proofs::Carrying::carry_step, crate::proofs::Carrying::carry_stop, crate::proofs::Carrying::carry_end))]
+fn bump(d: &mut [u8]) -> bool
+    ensures { Bumps d.old d.new result }
 {
-    let mut i = q;
-    while 0 < i {
-        i -= 1;
-        let b = d[i];
-        if b < b'9' {
-            d[i] = b + 1;
-            return 0;
+    for i in (0..d.len()).rev() {
+        if d[i] < b'9' {
+            d[i] += 1;
+            return false;
         }
         d[i] = b'0';
     }
-    1
+    true
 }
 
-// n and a fraction to q digits.
-pub fn round(f: Fraction, q: usize, n: u64) -> Rounded
-    requires { q < 9 }
-    ensures { (x : ℕ) → x < 10 ^ 9 → f ≡ fraction_digits x → Rounds n x q result }
+// a, whose fraction is f, to q digits.
+pub fn round(a: Amount, f: Fraction, q: usize) -> Rounded
+    requires { (q < 9) × IsFraction a.part f }
+    ensures { Rounds a.whole a.part q result }
 {
-    let mut d = f.digits;
-    let up = goes_up(f, q, n);
-    if up == 0 {
-        return Rounded {
-            fraction: Fraction {
-                digits: d,
-                count: q,
-            },
-            carry: 0,
-        };
-    }
-    let carry = bump(&mut d, q);
+    let mut digits = f.digits;
+    let carry = goes_up(a, f, q) && bump(&mut digits[..q]);
     Rounded {
-        fraction: Fraction {
-            digits: d,
-            count: q,
-        },
+        fraction: Fraction { digits, count: q },
         carry,
     }
 }

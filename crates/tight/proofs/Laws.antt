@@ -4,11 +4,12 @@ use mathlib.Core.List.{List}
 use Prim.Native.Nat.{ℕ, zero, suc}
 use lib.IntN.{ℤ}
 use lib.ListN.{length}
+use Rattle.std.specs.Prelude.{Result}
+use Rattle.refusal.specs.declared.Refusal.{Refusal}
 use Rattle.door.specs.Door.{Gives}
 use Rattle.duration.specs.declared.Duration.{Duration}
 use Rattle.duration.specs.Meaning.{N}
 use Rattle.text.specs.declared.Options.{Options}
-use Rattle.text.specs.declared.TextAnswer.{TextAnswer}
 use Rattle.text.specs.Text.{text}
 use Rattle.text.specs.Answer.{Printed, answer_of, left_in}
 use Rattle.reply.specs.Reply.{Replied}
@@ -36,11 +37,11 @@ pub gives : (n : ℕ) {x : _} {r s : ℕ} {before us vs : List ℕ} → Gives x 
 gives n p q = law (p.code, ap (after n) p.left) (q.code, ap (after n) q.left)
 
 -- ---- the text
-pub printed : (n : ℕ) {before us vs : List ℕ} {d : Duration} {o : Options} {r s : TextAnswer} → Printed before us d o r → Printed before vs d o s → (r ≡ s) × (after n us ≡ after n vs)
+pub printed : (n : ℕ) {before us vs : List ℕ} {d : Duration} {o : Options} {r s : Result ℕ Refusal} → Printed before us d o r → Printed before vs d o s → (r ≡ s) × (after n us ≡ after n vs)
 printed n {before} {us} {vs} {d} {o} p q = law (p.answer, ap (after n) (held p)) (q.answer, ap (after n) (held q))
   where
-    held : {r : TextAnswer} {us : List ℕ} → Printed before us d o r → us ≡ left_in (answer_of d o (length before)) (text (N d) o) before
-    held p = p.left ∙ ap (λ (z : TextAnswer). left_in z (text (N d) o) before) p.answer
+    held : {r : Result ℕ Refusal} {us : List ℕ} → Printed before us d o r → us ≡ left_in (answer_of d o (length before)) (text (N d) o) before
+    held p = p.left ∙ ap (λ (z : Result ℕ Refusal). left_in z (text (N d) o) before) p.answer
 
 -- ---- a C function
 pub replied : (n : ℕ) {x : _} {r s : ℕ} {before us vs : List ℕ} → Replied before us x r → Replied before vs x s → (r ≡ s) × (after n us ≡ after n vs)

@@ -19,6 +19,12 @@ pub refusal-number : Tight refusal.specs.contracts.number.ended refusal.proofs.n
 refusal-number κs a r s u v = plain
 
 -- ---- wide
+pub wide-WideFromU128-from : Tight wide.specs.contracts.WideFromU128.from.ended wide.proofs.WideFromU128.from.Reads.Learnt
+wide-WideFromU128-from κs a r s u v = plain
+
+pub wide-U128FromWide-from : Tight wide.specs.contracts.U128FromWide.from.ended wide.proofs.U128FromWide.from.Reads.Learnt
+wide-U128FromWide-from κs a r s u v = plain
+
 pub wide-widening_mul : Tight wide.specs.contracts.widening_mul.ended wide.proofs.widening_mul.Reads.Learnt
 wide-widening_mul κs a r s u v = plain
 
@@ -72,6 +78,9 @@ pub door-door_div : Tight door.specs.contracts.door_div.ended door.proofs.door_d
 door-door_div κs a r s u v = gives 4
 
 -- ---- duration::constructors
+pub duration-Duration-checked : Tight duration.specs.contracts.Duration.checked.ended duration.proofs.Duration.checked.Reads.Learnt
+duration-Duration-checked κs a r s u v = plain
+
 pub duration-new : Tight duration.specs.contracts.constructors.new.ended duration.proofs.constructors.new.Reads.Learnt
 duration-new κs a r s u v = plain
 
@@ -214,35 +223,32 @@ pub text-fmt : Tight text.specs.contracts.fmt.ended text.proofs.fmt.Reads.Learnt
 text-fmt κs a r s u v = printed 2
 
 -- ---- reply
+pub reply-WordsFromDuration-from : Tight reply.specs.contracts.WordsFromDuration.from.ended reply.proofs.WordsFromDuration.from.Reads.Learnt
+reply-WordsFromDuration-from κs a r s u v = plain
+
+pub reply-WordsFromWide-from : Tight reply.specs.contracts.WordsFromWide.from.ended reply.proofs.WordsFromWide.from.Reads.Learnt
+reply-WordsFromWide-from κs a r s u v = plain
+
+pub reply-WordsFromU64-from : Tight reply.specs.contracts.WordsFromU64.from.ended reply.proofs.WordsFromU64.from.Reads.Learnt
+reply-WordsFromU64-from κs a r s u v = plain
+
+pub reply-WordsFromU32-from : Tight reply.specs.contracts.WordsFromU32.from.ended reply.proofs.WordsFromU32.from.Reads.Learnt
+reply-WordsFromU32-from κs a r s u v = plain
+
+pub reply-WordsFromBool-from : Tight reply.specs.contracts.WordsFromBool.from.ended reply.proofs.WordsFromBool.from.Reads.Learnt
+reply-WordsFromBool-from κs a r s u v = plain
+
+pub reply-WordsFromOrdering-from : Tight reply.specs.contracts.WordsFromOrdering.from.ended reply.proofs.WordsFromOrdering.from.Reads.Learnt
+reply-WordsFromOrdering-from κs a r s u v = plain
+
+pub reply-WordsFromF64-from : Tight reply.specs.contracts.WordsFromF64.from.ended reply.proofs.WordsFromF64.from.Reads.Learnt
+reply-WordsFromF64-from κs a r s u v = plain
+
+pub reply-WordsFromF32-from : Tight reply.specs.contracts.WordsFromF32.from.ended reply.proofs.WordsFromF32.from.Reads.Learnt
+reply-WordsFromF32-from κs a r s u v = plain
+
 pub reply-send : Tight reply.specs.contracts.send.ended reply.proofs.send.Reads.Learnt
 reply-send κs a r s u v = replied 1
-
-pub reply-of_duration : Tight reply.specs.contracts.of_duration.ended reply.proofs.of_duration.Reads.Learnt
-reply-of_duration κs a r s u v = plain
-
-pub reply-of_sum : Tight reply.specs.contracts.of_sum.ended reply.proofs.of_sum.Reads.Learnt
-reply-of_sum κs a r s u v = plain
-
-pub reply-of_wide : Tight reply.specs.contracts.of_wide.ended reply.proofs.of_wide.Reads.Learnt
-reply-of_wide κs a r s u v = plain
-
-pub reply-of_word : Tight reply.specs.contracts.of_word.ended reply.proofs.of_word.Reads.Learnt
-reply-of_word κs a r s u v = plain
-
-pub reply-of_part : Tight reply.specs.contracts.of_part.ended reply.proofs.of_part.Reads.Learnt
-reply-of_part κs a r s u v = plain
-
-pub reply-of_flag : Tight reply.specs.contracts.of_flag.ended reply.proofs.of_flag.Reads.Learnt
-reply-of_flag κs a r s u v = plain
-
-pub reply-of_order : Tight reply.specs.contracts.of_order.ended reply.proofs.of_order.Reads.Learnt
-reply-of_order κs a r s u v = plain
-
-pub reply-of_f64 : Tight reply.specs.contracts.of_f64.ended reply.proofs.of_f64.Reads.Learnt
-reply-of_f64 κs a r s u v = plain
-
-pub reply-of_f32 : Tight reply.specs.contracts.of_f32.ended reply.proofs.of_f32.Reads.Learnt
-reply-of_f32 κs a r s u v = plain
 
 -- ---- saltribbon::constructors
 pub saltribbon-salt_new : Tight saltribbon.specs.contracts.constructors.salt_new.ended saltribbon.proofs.constructors.salt_new.Reads.Learnt

@@ -1,202 +1,128 @@
 // Two-word arithmetic: a number below 2^128 as a high and a low word of 64 bits. Every function here answers for every input.
-#![tactic(auto)]
+#![tactic(auto, unfolding(crate::specs::Wide::wide, crate::specs::Wide::words, crate::specs::Wide::answer, crate::specs::Wide::difference, crate::specs::Wide::division))]
 
 ghost use Rattle.std.specs.Prelude.{◌≡◌, ◌+◌, ◌*◌, ◌/◌, ◌^◌};
-ghost use Rattle.wide.specs.Wide.{wide, words, answer, difference, order, division};
+ghost use Rattle.std.specs.Ordering.{nat_cmp};
+ghost use Rattle.wide.specs.Wide.{wide, words, answer, difference, division};
 
 use refusal::Refusal;
+use std::cmp::Ordering;
 
-mod carry; // sums and differences of words
-mod long; // division by two words
-mod product; // the words of a product
-mod shift; // shifts of words
-mod short; // division by one word
-
-#[derive(Clone, Copy)]
+// Two words of a number, compared as the number is: document 01's two-word number goes in and comes out, and u128 does the work.
+#[derive(Clone, Copy, Debug, PartialEq, Eq, PartialOrd, Ord)]
 pub struct Wide {
     pub hi: u64,
     pub lo: u64,
 }
 
-#[derive(Clone, Copy)]
-pub enum WideAnswer {
-    Is(Wide),
-    Refused(Refusal),
-}
-
-#[derive(Clone, Copy)]
-pub enum Order {
-    Less,
-    Equal,
-    Greater,
-}
-
-#[derive(Clone, Copy)]
+#[derive(Clone, Copy, Debug, PartialEq, Eq)]
 pub struct Division {
     pub quotient: Wide,
     pub remainder: Wide,
 }
 
-#[derive(Clone, Copy)]
-pub enum DivAnswer {
-    Divided(Division),
-    Refused(Refusal),
+impl From<u128> for Wide {
+    ghost from_gives = { λ n w. w ≡ words n };
+
+    fn from(n: u128) -> Wide {
+        Wide {
+            hi: (n >> 64) as u64,
+            lo: (n % 0x1_0000_0000_0000_0000) as u64,
+        }
+    }
+}
+
+impl From<Wide> for u128 {
+    ghost from_gives = { λ w n. n ≡ wide w };
+
+    fn from(w: Wide) -> u128 {
+        ((w.hi as u128) << 64) + w.lo as u128
+    }
 }
 
 // a * b, exactly.
 pub fn widening_mul(a: u64, b: u64) -> Wide
     ensures { result ≡ words (a * b) }
 {
-    Wide {
-        hi: product::high(a, b),
-        lo: product::low(a, b),
-    }
+    Wide::from(a as u128 * b as u128)
 }
 
 // a * b + c, which always fits two words.
 pub fn scaled(a: u64, b: u32, c: u32) -> Wide
     ensures { result ≡ words (a * b + c) }
 {
-    let p = widening_mul(a, b as u64);
-    let low = carry::plus(p.lo, c as u64);
-    Wide {
-        hi: p.hi + low.over,
-        lo: low.word,
-    }
+    Wide::from(a as u128 * b as u128 + c as u128)
 }
 
-// x * y. Two numbers of two words each always have a product of more, and else one of the two cross products is 0. The words are
-// counted, since two tests one after the other would be a branch that is not to be foretold.
-pub fn mul(x: Wide, y: Wide) -> WideAnswer
+// x * y.
+pub fn mul(x: Wide, y: Wide) -> Result<Wide, Refusal>
     ensures { result ≡ answer (wide x * wide y) }
 {
-    let h = x.hi;
-    let l = x.lo;
-    let k = y.hi;
-    let j = y.lo;
-    if 1 < (0 < h) as u64 + (0 < k) as u64 {
-        return WideAnswer::Refused(Refusal::Overflow);
-    }
-    if 0 < product::high(h, j) {
-        return WideAnswer::Refused(Refusal::Overflow);
-    }
-    if 0 < product::high(k, l) {
-        return WideAnswer::Refused(Refusal::Overflow);
-    }
-    let top = Wide {
-        hi: product::low(h, j) + product::low(k, l),
-        lo: 0,
-    };
-    add(top, widening_mul(l, j))
+    let product = u128::from(x).checked_mul(u128::from(y));
+    Ok(Wide::from(product.ok_or(Refusal::Overflow)?))
 }
 
 // x + y.
-pub fn add(x: Wide, y: Wide) -> WideAnswer
+pub fn add(x: Wide, y: Wide) -> Result<Wide, Refusal>
     ensures { result ≡ answer (wide x + wide y) }
 {
-    let low = carry::plus(x.lo, y.lo);
-    let over = low.over;
-    let lo = low.word;
-    let h = x.hi;
-    let k = y.hi;
-    if u64::MAX - h < k {
-        return WideAnswer::Refused(Refusal::Overflow);
-    }
-    let hi = h + k;
-    if u64::MAX - hi < over {
-        return WideAnswer::Refused(Refusal::Overflow);
-    }
-    WideAnswer::Is(Wide { hi: hi + over, lo })
+    let sum = u128::from(x).checked_add(u128::from(y));
+    Ok(Wide::from(sum.ok_or(Refusal::Overflow)?))
 }
 
 // x - y.
-pub fn sub(x: Wide, y: Wide) -> WideAnswer
+pub fn sub(x: Wide, y: Wide) -> Result<Wide, Refusal>
     ensures { result ≡ difference (wide x) (wide y) }
 {
-    let low = carry::take(x.lo, y.lo);
-    let over = low.over;
-    let lo = low.word;
-    let h = x.hi;
-    let k = y.hi;
-    if h < k {
-        return WideAnswer::Refused(Refusal::Underflow);
-    }
-    let hi = h - k;
-    if hi < over {
-        return WideAnswer::Refused(Refusal::Underflow);
-    }
-    WideAnswer::Is(Wide { hi: hi - over, lo })
+    let rest = u128::from(x).checked_sub(u128::from(y));
+    Ok(Wide::from(rest.ok_or(Refusal::Underflow)?))
 }
 
-// The order of x and y: that of two words, so that one test of three ways is left.
-pub fn compare(x: Wide, y: Wide) -> Order
-    ensures { result ≡ order (wide x) (wide y) }
+// The order of x and y.
+pub fn compare(x: Wide, y: Wide) -> Ordering
+    ensures { result ≡ nat_cmp (wide x) (wide y) }
 {
-    let p = carry::deciding(x.hi, y.hi, x.lo);
-    let q = carry::deciding(y.hi, x.hi, y.lo);
-    if p < q {
-        return Order::Less;
-    }
-    if q < p {
-        return Order::Greater;
-    }
-    Order::Equal
+    u128::from(x).cmp(&u128::from(y))
 }
 
 // x * 2^n, where x has room for it. Zero has room for any shift.
-pub fn shl(x: Wide, n: u32) -> WideAnswer
+#[tactic(auto, using(crate::proofs::Shifts::shl_fits, crate::proofs::Shifts::shl_over), unfolding(crate::specs::Wide::wide, crate::specs::Wide::words, crate::specs::Wide::answer))]
+pub fn shl(x: Wide, n: u32) -> Result<Wide, Refusal>
     ensures { result ≡ answer (wide x * 2 ^ n) }
 {
-    let h = x.hi;
-    let l = x.lo;
-    let room = shift::room(h, l);
-    if room < n as u64 {
-        if room == 128 {
-            return WideAnswer::Is(x);
-        }
-        return WideAnswer::Refused(Refusal::Overflow);
+    let number = u128::from(x);
+    if number == 0 {
+        return Ok(x);
     }
-    WideAnswer::Is(Wide {
-        hi: shift::high_up(h, l, n),
-        lo: shift::word_up(l, n),
-    })
+    if number.leading_zeros() < n {
+        return Err(Refusal::Overflow);
+    }
+    Ok(Wide::from(number << n))
 }
 
 // x / 2^n, rounded down.
+#[tactic(auto, using(crate::proofs::Shifts::shr_none), unfolding(crate::specs::Wide::wide, crate::specs::Wide::words))]
 pub fn shr(x: Wide, n: u32) -> Wide
     ensures { result ≡ words (wide x / 2 ^ n) }
 {
-    Wide {
-        hi: shift::word_down(x.hi, n),
-        lo: shift::low_down(x.hi, x.lo, n),
+    if n < 128 {
+        return Wide::from(u128::from(x) >> n);
     }
+    Wide { hi: 0, lo: 0 }
 }
 
-// n by d, with remainder. A d of two words, of none and of one has each its own way.
-pub fn div(n: Wide, d: Wide) -> DivAnswer
+// n by d, with remainder.
+pub fn div(n: Wide, d: Wide) -> Result<Division, Refusal>
     ensures { result ≡ division (wide n) (wide d) }
 {
-    let hi = d.hi;
-    let lo = d.lo;
-    let h = n.hi;
-    let l = n.lo;
-    if 0 < hi {
-        let s = long::by_words(n, d);
-        let remainder = s.r;
-        return DivAnswer::Divided(Division {
-            quotient: Wide { hi: 0, lo: s.q },
-            remainder,
-        });
+    let over = u128::from(n);
+    let by = u128::from(d);
+    if by == 0 {
+        return Err(Refusal::ZeroDivisor);
     }
-    if lo == 0 {
-        return DivAnswer::Refused(Refusal::ZeroDivisor);
-    }
-    let s = short::by_word(h, l, lo);
-    DivAnswer::Divided(Division {
-        quotient: Wide {
-            hi: s.high,
-            lo: s.low,
-        },
-        remainder: Wide { hi: 0, lo: s.r },
+    let quotient = over / by;
+    Ok(Division {
+        quotient: Wide::from(quotient),
+        remainder: Wide::from(over - quotient * by),
     })
 }

@@ -1,9 +1,9 @@
-// Counts of units that are whole seconds.
+// Counts of units that are whole seconds. Document 01 names the form: a match on the unit's number chooses scale and limit.
 ghost use Rattle.std.specs.Prelude.{◌≡◌, ◌+◌, ◌*◌, ◌^◌, ◌<◌, ◌≤◌, get_or};
 ghost use Rattle.duration.specs.Meaning.{exact};
 ghost use Rattle.duration.specs.Units.{units};
 
-use crate::{Answer, Duration};
+use crate::Duration;
 use refusal::Refusal;
 
 // The seconds of the unit with that number, from a minute to a week.
@@ -33,14 +33,14 @@ pub fn limit(unit: u32) -> u64
 }
 
 // count units of scale seconds each; limit is the largest count that fits.
-pub fn seconds(count: u64, scale: u64, limit: u64) -> Answer
+pub fn seconds(count: u64, scale: u64, limit: u64) -> Result<Duration, Refusal>
     requires { (limit * scale < 2 ^ 64) × (2 ^ 64 ≤ (limit + 1) * scale) }
     ensures { result ≡ exact (count * (scale * 10 ^ 9)) }
 {
     if limit < count {
-        return Answer::Refused(Refusal::Overflow);
+        return Err(Refusal::Overflow);
     }
-    Answer::Is(Duration {
+    Ok(Duration {
         secs: count * scale,
         nanos: 0,
     })

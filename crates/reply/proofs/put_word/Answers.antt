@@ -1,15 +1,8 @@
 -- `reply::put_word` meets its contract. Assumes nothing.
-use mathlib.Core.Path.{ap, ◌∙◌}
-use mathlib.Core.List.{List}
-use Prim.Native.Nat.{ℕ, ◌%◌}
-use native.Mathlib.Omega.{arith}
-use lib.ListN.{set}
-use Rattle.laws.proofs.Bytes.{rest_more, stored}
+use Rattle.std.proofs.Common.{ℕ, List, ap, ◌++◌, drop, ◌∙◌}
+use Rattle.laws.proofs.Bytes.{library_bytes}
 use Rattle.reply.proofs.put_word.Goals as goal
 
-pub loop-i-preserved : goal.loop-i-preserved
-loop-i-preserved c = let l = c.loop-i in (
-  omega arith,
-  ap (λ (z : List ℕ). set z l.i (l.v % 256)) l.invariant.1 ∙ stored c.args.w l.v l.i c.args.out.now (omega arith) l.invariant.2,
-  rest_more c.args.w l.v l.i l.invariant.2,
-)
+pub returns : goal.returns
+returns c =
+    ap (λ (bytes : List ℕ). bytes ++ drop 8 c.args.out.now) (c.copy_from_slice.ensures.after ∙ c.to_le_bytes.ensures ∙ library_bytes 8 c.args.w)

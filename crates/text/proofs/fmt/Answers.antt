@@ -1,14 +1,12 @@
 -- `text::fmt` meets its contract. Assumes nothing.
-use mathlib.Core.Path.{sym, ◌∙◌}
-use native.Mathlib.Omega.{arith}
-use Rattle.text.proofs.Printing.{bad_duration, bad-options}
+use Rattle.std.proofs.Common.{sym, ◌∙◌, arith}
+use Rattle.text.proofs.Printing.{no_room, placed}
 use Rattle.text.proofs.fmt.Goals as goal
 
-pub returns-then-d-ge1000000000 : goal.returns-then-d-ge1000000000
-returns-then-d-ge1000000000 c = bad_duration _ _ _ c.if-d-ge1000000000.true
-
-pub print-requires : goal.print-requires
-print-requires c = (omega arith, sym c.accepted.ensures ∙ c.if-accepted.true)
+pub returns-then-out-size : goal.returns-then-out-size
+returns-then-out-size c =
+    no_room c.args.d c.args.o (sym c.checked.ensures ∙ c.in_ok-checked.was) c.of-scaled.ensures c.in_ok-layout.ensures c.new-plain.ensures.0 c.size-size.ensures c.saturating_sub-pad.ensures _ (omega arith)
 
 pub returns : goal.returns
-returns c = bad-options _ _ _ (omega arith) (sym c.accepted.ensures ∙ c.if-accepted.false)
+returns c =
+    placed c.args.d c.args.o (sym c.checked.ensures ∙ c.in_ok-checked.was) c.of-scaled.ensures c.in_ok-layout.ensures c.new-plain.ensures.0 c.size-size.ensures c.saturating_sub-pad.ensures (omega arith) c.place.ensures

@@ -3,5 +3,5 @@ use Rattle.std.proofs.Common.{arith}
 use Rattle.saltribbon.proofs.Signs.{sent_refusal}
 use Rattle.saltribbon.proofs.printed.signed.Goals as goal
 
-pub returns-in-Refused : goal.returns-in-Refused
-returns-in-Refused c = sent_refusal c.in-Refused.is c.number.ensures (omega arith)
+pub returns-in-Err : goal.returns-in-Err
+returns-in-Err c = sent_refusal c.in-Err.is c.number.ensures (omega arith)

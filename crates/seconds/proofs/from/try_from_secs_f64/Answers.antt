@@ -1,5 +1,5 @@
 -- `seconds::from::try_from_secs_f64` meets its contract: `proofs/Fields.antt` has what the pattern's fields say. Assumes nothing.
-use Rattle.std.proofs.Common.{refl, ◌∙◌, arith, lit<}
+use Rattle.std.proofs.Common.{refl, ◌∙◌, arith}
 use lib.Ieee.{binary64, of_bits}
 use Rattle.seconds.proofs.NoTie.{apart}
 use Rattle.seconds.proofs.Fields.{Pattern, pattern, nan_is, below_is}
@@ -9,14 +9,8 @@ fields : (c : goal.Then-x) → Pattern binary64 11 c.args.x
 unfolding of_bits
 fields c = pattern binary64 11 refl c.args.x c.well_formed.0.1 c.if-x.true
 
-pub near-requires : goal.near-requires
-near-requires c = ((fields c.before.before).led-lt, omega arith, omega arith)
-
 pub returns-then-exponent-lt1075 : goal.returns-then-exponent-lt1075
 returns-then-exponent-lt1075 c = c.near.ensures ∙ (fields c.before.before.before).downward (omega arith) (omega arith)
-
-pub large-requires : goal.large-requires
-large-requires c = let p = fields c.before.before in (omega (arith, p.led-lt), omega (arith, p.led-ge), lit< tt)
 
 pub returns-then-exponent-ge1013 : goal.returns-then-exponent-ge1013
 returns-then-exponent-ge1013 c = c.large.ensures ∙ (fields c.before.before.before).upward c.if-exponent-lt1075.false

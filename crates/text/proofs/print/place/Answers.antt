@@ -1,23 +1,20 @@
 -- `text::print::place` meets its contract. Assumes nothing.
-use native.Mathlib.Omega.{arith}
-use Rattle.laws.proofs.Written.{then, as_bytes, length-times}
-use Rattle.text.proofs.Printing.{front_le, pads}
+use Rattle.std.proofs.Common.{rules, arith}
+use Rattle.laws.specs.Written.{Wrote}
+use Rattle.laws.proofs.Written.{length-times, as_bytes}
+use Rattle.text.specs.Parts.{emitted, surrounded}
+use Rattle.text.proofs.Printing.{in_front_le, surrounds}
+use Rattle.text.proofs.Writing.{both, left}
 use Rattle.text.proofs.print.place.Goals as goal
 
-pub fill-i-requires : goal.fill-i-requires
-fill-i-requires c = omega (arith, c.requires.0, c.front_of-front.ensures, front_le c.args.alignment c.args.pad)
+pub write-requires : goal.write-requires
+write-requires c = omega (arith, c.requires, c.front-front.ensures, in_front_le c.args.l.alignment c.args.pad, length-times c.front-front.result c.args.l.fill, left c.repeat.ensures)
 
-pub emit-j-requires : goal.emit-j-requires
-emit-j-requires c =
-    (omega (arith, c.requires.0, c.front_of-front.ensures, front_le c.args.alignment c.args.pad, c.fill-i.ensures.next, length-times c.front_of-front.result c.args.b, c.fill-i.auto), c.requires.1)
-
-pub overflow_sub-pad : goal.overflow_sub-pad
-overflow_sub-pad c = omega (arith, c.front_of-front.ensures, front_le c.args.alignment c.args.pad)
-
-pub fill-requires : goal.fill-requires
-fill-requires c =
-    omega (arith, c.requires.0, c.front_of-front.ensures, front_le c.args.alignment c.args.pad, c.fill-i.ensures.next, length-times c.front_of-front.result c.args.b, c.emit-j.ensures.next, c.fill-i.auto, c.emit-j.auto)
+pub repeat-requires-2 : goal.repeat-requires-2
+repeat-requires-2 c = omega (arith, c.requires, c.front-front.ensures, in_front_le c.args.l.alignment c.args.pad, length-times c.front-front.result c.args.l.fill, left c.repeat.ensures, left c.write.ensures)
 
 pub returns : goal.returns
 returns c =
-    as_bytes (pads _ _ _ _ c.front_of-front.ensures) (then (then c.fill-i.ensures c.emit-j.ensures) c.fill.ensures)
+    let w : Wrote c.args.out.now c.repeat-2.new.self.out.now 0 c.repeat-2.new.self.at (surrounded c.args.l c.args.pad (emitted c.args.p)) =
+    as_bytes (surrounds _ _ _ c.front-front.ensures) (both (both c.repeat.ensures c.write.ensures) c.repeat-2.ensures).wrote in
+    search rules

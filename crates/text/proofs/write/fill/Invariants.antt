@@ -1,11 +1,7 @@
--- The loop of `text::write::fill`: to write what is left gives what is wanted. Assumes nothing.
-use mathlib.Core.Path.{◌≡◌}
-use Prim.Native.Nat.{◌+◌, ◌-◌, ◌≤◌}
+-- The loop of `text::write::fill`: to write what is left gives b throughout. Assumes nothing.
+use Rattle.std.proofs.Common.{◌≡◌, ◌-◌, length}
 use Rattle.laws.specs.Written.{splice, times}
 use Rattle.text.proofs.write.fill.Given as goal
 
-abbrev pub invariant-loop-i : goal.invariant-loop-i
-invariant-loop-i l = (l.i ≤ l.n) × (splice l.out (l.at + l.i) (times (l.n - l.i) l.b) ≡ splice l.initial.out l.at (times l.n l.b))
-
-abbrev pub decreases-loop-i : goal.decreases-loop-i
-decreases-loop-i l = l.n - l.i
+abbrev pub invariant-loop-to : goal.invariant-loop-to
+invariant-loop-to l = splice l.to-items l.to-index (times (length l.initial.to-items - l.to-index) l.b) ≡ times (length l.initial.to-items) l.b

@@ -1,7 +1,0 @@
--- `arithmetic::saturating_sub` meets its contract. Assumes nothing.
-use mathlib.Core.Path.{ap, ◌∙◌}
-use Rattle.arithmetic.specs.Arithmetic.{saturated}
-use Rattle.arithmetic.proofs.saturating_sub.Goals as goal
-
-pub returns : goal.returns
-returns c = c.saturate.ensures ∙ ap saturated c.checked_sub.ensures

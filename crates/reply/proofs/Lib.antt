@@ -1,0 +1,2 @@
+-- Lemmas of `reply`.
+mod Nans

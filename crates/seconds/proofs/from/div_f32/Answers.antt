@@ -1,7 +1,0 @@
--- `seconds::from::div_f32` meets its contract. Assumes nothing.
-use Rattle.std.proofs.Common.{ap, ◌∙◌}
-use Rattle.seconds.specs.From.{over_float}
-use Rattle.seconds.proofs.from.div_f32.Goals as goal
-
-pub returns : goal.returns
-returns c = c.div_f64.ensures ∙ ap (over_float c.args.d) c.f32_to_f64_with_nan.ensures
