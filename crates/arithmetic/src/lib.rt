@@ -122,7 +122,8 @@ pub fn div_duration_floor(a: Duration, b: Duration) -> Result<Wide, Refusal>
     Ok(Wide::from(quotient(over, by)))
 }
 
-// How many times a holds b, rounded up.
+// How many times a holds b, rounded up. Two names, as the Rust has them: one function with the way of rounding for a parameter, and
+// two more over it, would be no plainer.
 pub fn div_duration_ceil(a: Duration, b: Duration) -> Result<Wide, Refusal>
     ensures { result ≡ ceil_of a b }
 {
