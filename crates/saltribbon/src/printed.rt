@@ -13,7 +13,7 @@ fn option(n: i64) -> u64
     u64::try_from(n).unwrap_or(u64::MAX)
 }
 
-// A number of digits or of characters, of which -1 is none.
+// A number of digits or of characters, of which C writes -1 for none: a match, since no library method has that case.
 fn count(n: i64) -> Option<u64>
     ensures { result ≡ count_of n }
 {
