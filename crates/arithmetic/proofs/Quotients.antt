@@ -1,7 +1,7 @@
 -- Laws of quotients: one of k equal shares by its parts, and a quotient by the upper parts of both, at most 1 too small. Assumes nothing.
 use Rattle.std.specs.Prelude.{◌≡◌, ℕ, ◌+◌, ◌*◌, ◌-◌, ◌/◌, ◌%◌, ◌^◌, ◌<◌, ◌≤◌, Ok}
 use Rattle.std.proofs.Common.{arith, sym}
-use Rattle.std.proofs.Math.Nat.{div-add-mod', div-lt_iff_lt-mul, div-le_self, div-eq_of_lt-le, mod-lt, mul-le-mul_left}
+use Rattle.std.proofs.Math.Nat.{div-add-mod', div-lt_iff_lt-mul, div-le_self, div-eq_of_lt, div-eq_of_lt-le, mod-lt, mul-le-mul_left}
 use Rattle.duration.specs.Meaning.{exact}
 use Rattle.duration.proofs.Exact.{exact_is}
 
@@ -44,9 +44,19 @@ module _ (n d : ℕ) (few : n < 2 ^ 65 * 10 ^ 9) (long : 2 ^ 64 ≤ d) where
   pub one_more : d ≤ n - q * d → q + 1 ≡ n / d
   one_more h = sym (div-eq_of_lt-le d (omega (arith, not_above)) (omega (arith, near)))
 
+-- a number of one word holds none of two
+pub none : (n d : ℕ) → n < 2 ^ 64 → 2 ^ 64 ≤ d → 0 ≡ n / d
+none n d short long = sym (div-eq_of_lt (omega arith))
+
 -- ---- a quotient rounded up, from the one rounded down
 pub nothing_left : (n d : ℕ) → 0 < d → n ≤ n / d * d → n / d ≡ (n + (d - 1)) / d
 nothing_left n d some h = sym (div-eq_of_lt-le d (omega (arith, div-add-mod' n d)) (omega (arith, h)))
 
 pub something_left : (n d : ℕ) → 0 < d → n / d * d < n → n / d + 1 ≡ (n + (d - 1)) / d
 something_left n d some h = sym (div-eq_of_lt-le d (omega (arith, h)) (omega (arith, div-add-mod' n d, mod-lt n some)))
+
+pub one_part : (n d : ℕ) → 0 < n → n < d → 1 ≡ (n + (d - 1)) / d
+one_part n d some h = sym (div-eq_of_lt-le d (omega arith) (omega arith))
+
+pub no_part : (n d : ℕ) → n ≤ 0 → 0 < d → 0 ≡ (n + (d - 1)) / d
+no_part n d none some = sym (div-eq_of_lt (omega arith))

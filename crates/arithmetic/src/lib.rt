@@ -3,7 +3,7 @@
 
 ghost use Rattle.std.specs.Prelude.{◌≡◌, ◌+◌, ◌-◌, ◌*◌, ◌/◌, ◌^◌, ◌<◌, ◌≤◌};
 ghost use Rattle.duration.specs.Meaning.{N, of_nanos};
-ghost use Rattle.arithmetic.specs.Arithmetic.{added, subtracted, apart, times, shared, floor_of, ceil_of, saturated};
+ghost use Rattle.arithmetic.specs.Arithmetic.{added, subtracted, apart, times, shared, quotient_of, floor_of, ceil_of, saturated};
 
 use duration::{Duration, constructors, parts};
 use refusal::Refusal;
@@ -83,31 +83,85 @@ pub fn checked_div(d: Duration, k: u32) -> Result<Duration, Refusal>
     })
 }
 
-// n / d. Where d has two words, the machine divides what both have above their last 31 bits: that quotient is at most 1 too small.
-// Where n has one word, the machine divides.
+// n / d, of two words each. The machine divides what both have above their last 31 bits: that quotient is at most 1 too small.
 #[tactic(auto, using(crate::proofs::Quotients::not_above, crate::proofs::Quotients::as_it_is, crate::proofs::Quotients::one_more))]
-fn quotient(n: u128, d: u128) -> u128
-    requires { (n < 2 ^ 65 * 10 ^ 9) × (d < 2 ^ 65 * 10 ^ 9) × (0 < d) }
+fn long_quotient(n: u128, d: u128) -> u128
+    requires { (n < 2 ^ 65 * 10 ^ 9) × (d < 2 ^ 65 * 10 ^ 9) × (2 ^ 64 ≤ d) }
     ensures { result ≡ n / d }
 {
-    if d > u64::MAX as u128 {
-        let near = ((n >> 31) as u64 / ((d >> 31) as u64 + 1)) as u128;
-        return if n - near * d < d { near } else { near + 1 };
-    }
-    match u64::try_from(n) {
-        Ok(short) => (short / d as u64) as u128,
-        Err(_) => n / d,
+    let near = ((n >> 31) as u64 / ((d >> 31) as u64 + 1)) as u128;
+    if n - near * d < d { near } else { near + 1 }
+}
+
+// n / d, where n has one word: the machine divides, or d is the longer.
+#[tactic(auto, using(crate::proofs::Quotients::none), unfolding(crate::specs::Arithmetic::quotient_of, wide::specs::Wide::words))]
+fn short_quotient(n: u64, d: u128) -> Result<Wide, Refusal>
+    ensures { result ≡ quotient_of (n / d) d }
+{
+    match u64::try_from(d) {
+        Ok(0) => Err(Refusal::ZeroDivisor),
+        Ok(d) => Ok(Wide::from((n / d) as u128)),
+        Err(_) => Ok(Wide::from(0)),
     }
 }
 
 // The same, rounded up.
+#[tactic(auto, using(crate::proofs::Quotients::nothing_left, crate::proofs::Quotients::something_left, crate::proofs::Quotients::one_part, crate::proofs::Quotients::no_part), unfolding(crate::specs::Arithmetic::quotient_of))]
+fn short_ceiling(n: u64, d: u128) -> Result<Wide, Refusal>
+    ensures { result ≡ quotient_of ((n + (d - 1)) / d) d }
+{
+    match u64::try_from(d) {
+        Ok(0) => Err(Refusal::ZeroDivisor),
+        Ok(d) => {
+            let whole = n / d;
+            Ok(Wide::from(if whole * d < n {
+                whole as u128 + 1
+            } else {
+                whole as u128
+            }))
+        }
+        Err(_) => Ok(Wide::from(if 0 < n { 1 } else { 0 })),
+    }
+}
+
+// n / d, by the lengths of both.
+#[tactic(auto, unfolding(wide::specs::Wide::wide, wide::specs::Wide::words, wide::specs::Wide::division, crate::specs::Arithmetic::quotient_of))]
+fn quotient(n: u128, d: u128) -> Result<Wide, Refusal>
+    requires { (n < 2 ^ 65 * 10 ^ 9) × (d < 2 ^ 65 * 10 ^ 9) }
+    ensures { result ≡ quotient_of (n / d) d }
+{
+    if let Ok(n) = u64::try_from(n) {
+        return short_quotient(n, d);
+    }
+    if d > u64::MAX as u128 {
+        return Ok(Wide::from(long_quotient(n, d)));
+    }
+    Ok(wide::div(Wide::from(n), Wide::from(d))?.quotient)
+}
+
+// n / d rounded up, from n / d rounded down.
 #[tactic(auto, using(crate::proofs::Quotients::nothing_left, crate::proofs::Quotients::something_left))]
-fn ceiling(n: u128, d: u128) -> u128
-    requires { (n < 2 ^ 65 * 10 ^ 9) × (d < 2 ^ 65 * 10 ^ 9) × (0 < d) }
+fn upward(whole: u128, n: u128, d: u128) -> u128
+    requires { (n < 2 ^ 65 * 10 ^ 9) × (0 < d) × (whole ≡ n / d) }
     ensures { result ≡ (n + (d - 1)) / d }
 {
-    let whole = quotient(n, d);
     if whole * d < n { whole + 1 } else { whole }
+}
+
+// The same as `quotient`, rounded up.
+#[tactic(auto, unfolding(wide::specs::Wide::wide, wide::specs::Wide::words, wide::specs::Wide::division, crate::specs::Arithmetic::quotient_of))]
+fn ceiling(n: u128, d: u128) -> Result<Wide, Refusal>
+    requires { (n < 2 ^ 65 * 10 ^ 9) × (d < 2 ^ 65 * 10 ^ 9) }
+    ensures { result ≡ quotient_of ((n + (d - 1)) / d) d }
+{
+    if let Ok(n) = u64::try_from(n) {
+        return short_ceiling(n, d);
+    }
+    if d > u64::MAX as u128 {
+        return Ok(Wide::from(upward(long_quotient(n, d), n, d)));
+    }
+    let whole = wide::div(Wide::from(n), Wide::from(d))?.quotient;
+    Ok(Wide::from(upward(u128::from(whole), n, d)))
 }
 
 // How many times a holds b, rounded down.
@@ -116,10 +170,7 @@ pub fn div_duration_floor(a: Duration, b: Duration) -> Result<Wide, Refusal>
 {
     let over = u128::from(parts::as_nanos(a)?);
     let by = u128::from(parts::as_nanos(b)?);
-    if by == 0 {
-        return Err(Refusal::ZeroDivisor);
-    }
-    Ok(Wide::from(quotient(over, by)))
+    quotient(over, by)
 }
 
 // How many times a holds b, rounded up. Two names, as the Rust has them: one function with the way of rounding for a parameter, and
@@ -129,10 +180,7 @@ pub fn div_duration_ceil(a: Duration, b: Duration) -> Result<Wide, Refusal>
 {
     let over = u128::from(parts::as_nanos(a)?);
     let by = u128::from(parts::as_nanos(b)?);
-    if by == 0 {
-        return Err(Refusal::ZeroDivisor);
-    }
-    Ok(Wide::from(ceiling(over, by)))
+    ceiling(over, by)
 }
 
 // MAX in place of an overflow, and ZERO in place of an underflow.

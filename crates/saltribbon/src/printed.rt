@@ -10,7 +10,7 @@ use text::Options;
 fn option(n: i64) -> u64
     ensures { result ≡ option_of n }
 {
-    u64::try_from(n).unwrap_or(u64::MAX)
+    n.max(-1).cast_unsigned()
 }
 
 // A number of digits or of characters, of which C writes -1 for none: a match, since no library method has that case.

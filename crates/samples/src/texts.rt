@@ -36,7 +36,7 @@ fn agrees(line: &[u8; LINE]) -> bool {
         &mut out,
     );
     let (text, _) = line[HEAD..].as_chunks::<2>();
-    answer == said.cast_signed() && text.iter().map(byte).eq(out)
+    answer == said.cast_signed() && text.iter().map(byte).eq(out.iter().copied())
 }
 
 // Counts the rows of the file `texts`, and stops at the first that differs. A file that cannot be opened has no rows, and a row that

@@ -1,10 +1,12 @@
 -- The ways of `rounded`, `nanos` and `near`: a fraction of a second in two words, rounded by one sum. Assumes nothing.
-use Rattle.std.proofs.Common.{◌≡◌, ℕ, zero, suc, ◌+◌, ◌-◌, ◌*◌, ◌/◌, ◌%◌, ◌^◌, ◌<◌, ◌≤◌, sym, refl, ap, ◌∙◌, subst, add-zero, mul_assoc, mul_comm, mul_right_comm, arith, lit≤, pow_pos, pow_mono, pow-add, bit_or}
+use Rattle.std.proofs.Common.{◌≡◌, ℕ, zero, suc, ◌+◌, ◌-◌, ◌*◌, ◌/◌, ◌%◌, ◌^◌, ◌<◌, ◌≤◌, sym, refl, ap, ◌∙◌, subst, add-zero, lt_of_le_of_lt, lt_of_lt_of_le, div-le_self, mul_assoc, mul_comm, mul_right_comm, arith, lit≤, pow_pos, pow_mono, pow-add, bit_or}
 use Rattle.std.proofs.lemmas.Nat.{one_shl, shl-shr, mod-pow-add}
 use native.Mathlib.Nat.{mul-mod_left, pow-succ'}
 use lib.Ieee.Nearest.{closest, closest_same}
 use Rattle.laws.proofs.Closest.{by_sum}
+use Rattle.std.specs.Prelude.{Ok}
 use Rattle.duration.specs.Meaning.{exact}
+use Rattle.duration.proofs.Exact.{exact_is}
 use Rattle.seconds.specs.From.{of_fraction}
 use Rattle.seconds.proofs.Fraction.{split_at}
 
@@ -96,3 +98,7 @@ over_64 m k h = subst (λ (z : ℕ). closest (m * 2 ^ (64 - k) % 2 ^ z * 10 ^ 9)
 
 pub near_is : (m k n : ℕ) → m < 2 ^ 53 → k < 64 → n ≡ closest (m * 2 ^ (64 - k) % 2 ^ 64 * 10 ^ 9) (2 ^ 64) → exact (m / 2 ^ k * 10 ^ 9 + n) ≡ of_fraction m (2 ^ k)
 near_is m k n M K e = ap (λ (z : ℕ). exact (m / 2 ^ k * 10 ^ 9 + z)) (e ∙ over_64 m k K) ∙ sym (split_at m k M)
+
+-- the same as a pair, below a second's nanoseconds: so that a carry left out falls on these, and not on the form of the answer
+pub near_pair : (m k n : ℕ) → m < 2 ^ 53 → k < 64 → n ≡ closest (m * 2 ^ (64 - k) % 2 ^ 64 * 10 ^ 9) (2 ^ 64) → n < 10 ^ 9 → Ok (record { secs = m / 2 ^ k; nanos = n }) ≡ of_fraction m (2 ^ k)
+near_pair m k n M K e T = exact_is (lt_of_le_of_lt (div-le_self m (2 ^ k)) (lt_of_lt_of_le M (lit≤ tt))) T refl ∙ near_is m k n M K e

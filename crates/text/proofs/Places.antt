@@ -1,13 +1,17 @@
 -- How many fraction digits show a number exactly. Assumes nothing.
-use Rattle.std.proofs.Common.{◌≡◌, sym, ap, ◌∙◌, ℕ, zero, suc, ◌+◌, ◌-◌, ◌*◌, ◌/◌, ◌%◌, ◌^◌, ◌≤◌, ◌<◌, mul_comm, mul-div_cancel, pow-suc, add-zero, zero-mul, arith, eq-eqb, ne_eqb, eqb-true, eqb, get_or, length, List, pow-add}
+use Rattle.std.proofs.Common.{◌≡◌, sym, ap, ◌∙◌, ℕ, zero, suc, ◌+◌, ◌-◌, ◌*◌, ◌/◌, ◌%◌, ◌^◌, ◌≤◌, ◌<◌, mul_comm, mul-div_cancel, pow-suc, add-zero, zero-mul, arith, eq-eqb, ne_eqb, eqb-true, eqb, get_or, length, length-take-le, List, [], ◌∷◌, ◌++◌, take, drop, get_or-take, pow-add, inl, inr}
 use Rattle.std.proofs.Math.Arith.{mod-mul}
 use Rattle.std.proofs.Math.Nat.{mul-mod_left, mod-one}
 use borrow.Author.Tests.{eqb-false}
-use Rattle.laws.proofs.Closest.{zero_of}
+use Rattle.std.proofs.lemmas.List.{drop-replicate, get_or-append_right, get_or-replicate}
+use Rattle.laws.specs.Written.{times}
+use Rattle.laws.proofs.Closest.{zero_of, le_or_lt}
+use Rattle.text.specs.declared.fraction.Fraction.{Fraction}
 use Rattle.text.specs.Text.{exact_places}
+use Rattle.text.specs.Parts.{IsFraction}
 use Rattle.text.proofs.Leasts.{least_is, least_at, least_before}
 use Rattle.text.specs.Digits.{ending_digits}
-use Rattle.text.proofs.Decimals.{ten_pos, digit_at, length_digits}
+use Rattle.text.proofs.Decimals.{ten_pos, digit_at, length_digits, digits-zeros}
 
 -- ---- remainders of multiples
 pub scaled_mod : (x m c : ℕ) → 0 < m → 0 < c → x * c % (m * c) ≡ x % m * c
@@ -81,6 +85,51 @@ used_is x {c} {d} e h f g = sym (least_is _ 9 c le (eq-eqb _ 0 hit) (λ (i : ℕ
         let k : 8 - (c - 1) ≡ 9 - c = omega (arith, l, le) in
         let digit : get_or d (c - 1) 0 ≡ 48 + x / 10 ^ (9 - c) % 10 = same (c - 1) ∙ rw k at (digit_at x (c - 1) (omega (arith, l, le))) in
         g (omega arith) (omega (arith, digit, last_zero x c le i l z))
+
+abbrev pub zeros : List ℕ
+zeros = 48 ∷ 48 ∷ 48 ∷ 48 ∷ 48 ∷ 48 ∷ 48 ∷ 48 ∷ 48 ∷ []
+
+-- ---- x is y and zeros behind it: only the first m of its nine digits are written and looked at
+module _ (x y m : ℕ) (h : m ≤ 9) (w : x ≡ y * 10 ^ (9 - m)) where
+  nine : m + (9 - m) ≡ 9
+  nine = omega arith
+
+  split : ending_digits 9 x ≡ ending_digits m y ++ times (9 - m) 48
+  split = ap (ending_digits 9) w ∙ rw nine at (digits-zeros m (9 - m) y)
+
+  written : {b : List ℕ} → b ≡ ending_digits (length (take m zeros)) y → b ++ drop m zeros ≡ ending_digits 9 x
+  unfolding times
+  written {b} e =
+      let len : length (take m zeros) ≡ m = length-take-le m zeros h in
+      (λ i. (e ∙ ap (λ (z : ℕ). ending_digits z y) len) i ++ drop-replicate m 9 48 i) ∙ sym split
+
+  used : {c : ℕ} {d : List ℕ} → d ≡ ending_digits 9 x → c ≤ length (take m d) → ((k : ℕ) → c ≤ k → k < length (take m d) → get_or (take m d) k 0 ≡ 48) → (0 < c → get_or (take m d) (c - 1) 0 ≡ 48 → ⊥) → c ≡ exact_places 9 x
+  unfolding times
+  used {c} {d} e l f g = used_is x e (omega (arith, l, few, all)) rest (λ p z. g p (get_or-take m d (c - 1) 0 (omega (arith, l, few, p)) ∙ z))
+    where
+      all : length d ≡ 9
+      all = ap length e ∙ length_digits 9 x
+
+      few : length (take m d) ≡ m
+      few = length-take-le m d (omega (arith, h, all))
+
+      behind : (k : ℕ) → m ≤ k → k < 9 → get_or d k 0 ≡ 48
+      behind k a b =
+          ap (λ (z : List ℕ). get_or z k 0) (e ∙ split)
+          ∙ get_or-append_right (ending_digits m y) (times (9 - m) 48) m k 0 (length_digits m y) a
+          ∙ get_or-replicate (9 - m) (k - m) 48 0 (omega arith)
+
+      rest : (k : ℕ) → c ≤ k → k < length d → get_or d k 0 ≡ 48
+      rest k a b = elim (le_or_lt m k) [
+        | inl t ↦ behind k t (omega (arith, b, all))
+        | inr t ↦ sym (get_or-take m d k 0 t) ∙ f k a (omega (arith, few, t))
+      ]
+
+  pub front_is : {b : List ℕ} {f : Fraction} → b ≡ ending_digits (length (take m zeros)) y → f.digits ≡ b ++ drop m zeros → f.count ≤ length (take m f.digits) → ((k : ℕ) → f.count ≤ k → k < length (take m f.digits) → get_or (take m f.digits) k 0 ≡ 48) → (0 < f.count → get_or (take m f.digits) (f.count - 1) 0 ≡ 48 → ⊥) → IsFraction x f
+  front_is {b} {f} e d l z g = let same : f.digits ≡ ending_digits 9 x = d ∙ written e in record { digits = same; count = used same l z g }
+
+pub as_part : {x y : ℕ} {f : Fraction} → y ≡ x → IsFraction x f → IsFraction y f
+as_part e s = rw (← e) at s
 
 -- ---- what the count of digits in use says of what follows them
 -- as many digits as are in use show x exactly

@@ -1,5 +1,5 @@
 // The digit step: the digits of a fraction, and how many of them are in use.
-ghost use Rattle.std.specs.Prelude.{◌≡◌, ◌≢◌, ℕ, ◌-◌, ◌≤◌, ◌<◌, length, slice_index};
+ghost use Rattle.std.specs.Prelude.{◌≡◌, ◌≢◌, ℕ, ◌-◌, ◌*◌, ◌^◌, ◌≤◌, ◌<◌, length, slice_index};
 
 use crate::digits::put_digits;
 use crate::unit::Amount;
@@ -25,17 +25,34 @@ fn count_used(digits: &[u8]) -> usize
 impl Fraction {
     ghost use Rattle.text.specs.Parts.{IsFraction};
 
-    // The digits of the billionths.
-    #[tactic(auto, using(crate::proofs::Places::used_is), unfolding(crate::specs::Digits::ending_digits, crate::specs::Digits::least, crate::specs::Text::exact_places))]
+    // n in k digits, and zeros behind them. Inlined, so that k is known.
+    #[inline(always)]
+    fn of_digits(n: u32, k: usize) -> Fraction
+        requires { k ≤ 9 }
+        ensures { IsFraction (n * 10 ^ (9 - k)) result }
+    {
+        let mut digits = [b'0'; 9];
+        put_digits(&mut digits[..k], n as u64);
+        let count = count_used(&digits[..k]);
+        Fraction { digits, count }
+    }
+
+    // The digits of the billionths. Milliseconds end in three zeros and microseconds in six: these go at once.
+    #[tactic(auto, using(crate::proofs::Places::as_part), unfolding(crate::specs::Digits::ending_digits, crate::specs::Digits::least, crate::specs::Text::exact_places))]
     pub fn of(a: Amount) -> Fraction
         ensures { IsFraction a.part result }
     {
-        let mut digits = [b'0'; 9];
-        if a.part == 0 {
+        let part = a.part;
+        if part == 0 {
+            let digits = [b'0'; 9];
             return Fraction { digits, count: 0 };
         }
-        put_digits(&mut digits, a.part as u64);
-        let count = count_used(&digits);
-        Fraction { digits, count }
+        if part % 1_000_000 == 0 {
+            return Fraction::of_digits(part / 1_000_000, 3);
+        }
+        if part % 1_000 == 0 {
+            return Fraction::of_digits(part / 1_000, 6);
+        }
+        Fraction::of_digits(part, 9)
     }
 }

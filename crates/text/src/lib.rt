@@ -41,9 +41,9 @@ pub struct Options {
 pub fn fmt(d: Duration, o: Options, out: &mut [u8]) -> Result<usize, Refusal>
     ensures { Printed out.old out.new d o result }
 {
-    let scaled = Scaled::of(d.checked()?);
+    let d = d.checked()?;
     let layout = Layout::try_from(o)?;
-    let plain = Plain::new(scaled, layout);
+    let plain = Plain::new(Scaled::of(d), layout);
     let size = plain.size();
     let pad = layout.width.saturating_sub(size.characters);
     if out.len() < size.bytes + pad {

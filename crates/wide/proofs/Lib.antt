@@ -1,2 +1,5 @@
 -- Lemmas of `wide`.
 mod Shifts
+mod Products
+mod Estimate
+mod Quotient

@@ -1,7 +1,7 @@
 -- How far a number of 128 bits can be shifted. Assumes nothing.
-use Rattle.std.specs.Prelude.{◌≡◌, ℕ, ◌+◌, ◌*◌, ◌/◌, ◌^◌, ◌≤◌, ◌<◌}
-use native.Mathlib.Nat.{le_trans, mul-le-mul_right, lt_of_lt_of_le, pos_of_ne-zero, div-eq_of_lt}
-use Rattle.std.proofs.Common.{arith, sym}
+use Rattle.std.specs.Prelude.{◌≡◌, ℕ, ◌+◌, ◌*◌, ◌/◌, ◌%◌, ◌^◌, ◌≤◌, ◌<◌}
+use native.Mathlib.Nat.{le_trans, mul-le-mul_right, lt_of_lt_of_le, pos_of_ne-zero, div-eq_of_lt, mod-eq_of_lt}
+use Rattle.std.proofs.Common.{arith, sym, ap, ◌∙◌, mul-one}
 use lib.Count.{count_leading_zeros, leading_top, leading_length}
 use lib.Pow.{pow_mono, pow-add, shl_lt}
 
@@ -17,6 +17,10 @@ shl_over y n b h z =
     let t = leading_top 128 y (pos_of_ne-zero z) b in
     let w : 128 ≤ t.0 + n = omega (arith, t.1) in
     le_trans (pow_mono w) (rw pow-add (mul-le-mul_right (2 ^ n) t.2))
+
+-- what is left of it after fewer
+pub shr_kept : (y n : ℕ) → n < 128 → y / 2 ^ (n % 128) * 1 ≡ y / 2 ^ n
+shr_kept y n h = mul-one (y / 2 ^ (n % 128)) ∙ ap (λ (k : ℕ). y / 2 ^ k) (mod-eq_of_lt h)
 
 -- nothing is left of it after 128 places or more
 pub shr_none : (y n : ℕ) → y < 2 ^ 128 → 128 ≤ n → 0 ≡ y / 2 ^ n

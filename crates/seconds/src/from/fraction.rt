@@ -32,7 +32,7 @@ fn nanos(f: u64, j: u64) -> u64
 }
 
 // m / 2^k seconds. The shift drops the whole seconds, and leaves the fraction over 2^64. Its nanoseconds may be a second, which carries.
-#[tactic(auto, using(crate::proofs::Rounding::near_is))]
+#[tactic(auto, using(crate::proofs::Rounding::near_is, crate::proofs::Rounding::near_pair))]
 pub fn near(m: u64, k: u64) -> Result<Duration, Refusal>
     requires { (m < 2 ^ 53) × (0 < k) × (k < 64) }
     ensures { result ≡ of_fraction m (2 ^ k) }
