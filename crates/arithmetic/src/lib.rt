@@ -164,10 +164,12 @@ fn ceiling(n: u128, d: u128) -> Result<Wide, Refusal>
     Ok(Wide::from(upward(u128::from(whole), n, d)))
 }
 
-// How many times a holds b, rounded down.
+// How many times a holds b, rounded down. Both pairs are tested before anything is worked out, so that one branch does for the two.
 pub fn div_duration_floor(a: Duration, b: Duration) -> Result<Wide, Refusal>
     ensures { result ≡ floor_of a b }
 {
+    let a = a.checked()?;
+    let b = b.checked()?;
     let over = u128::from(parts::as_nanos(a)?);
     let by = u128::from(parts::as_nanos(b)?);
     quotient(over, by)
@@ -178,6 +180,8 @@ pub fn div_duration_floor(a: Duration, b: Duration) -> Result<Wide, Refusal>
 pub fn div_duration_ceil(a: Duration, b: Duration) -> Result<Wide, Refusal>
     ensures { result ≡ ceil_of a b }
 {
+    let a = a.checked()?;
+    let b = b.checked()?;
     let over = u128::from(parts::as_nanos(a)?);
     let by = u128::from(parts::as_nanos(b)?);
     ceiling(over, by)
